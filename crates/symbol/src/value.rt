@@ -4,6 +4,7 @@ ghost use Prim.Native.Nat.{_≤_};
 ghost use Rattle.symbol.specs.Values.{digitsValue, numberValue, ordinalValue, printable, quotedValue, characterValue};
 
 const LARGEST_NUMBER: u32 = 2147483647;
+
 const LARGEST_CHARACTER: u32 = 0o177;
 
 // The number that the digits say, if there is one, no other byte, and it is not above the limit.

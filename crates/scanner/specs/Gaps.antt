@@ -1,0 +1,52 @@
+-- What stands between symbols: blanks and comments.
+use Prim.Native.Nat.{ℕ, _+_, _-_}
+use mathlib.Core.Bool.{Bool, cond, _&&_, _||_}
+use mathlib.Core.List.{List, [], _∷_}
+use lib.Dec.{eqb, ltb}
+use Rattle.std.specs.declared.result.Result.{Result}
+use Rattle.std.specs.declared.result.Result.the-variants.{Ok, Err}
+use Rattle.fault.specs.declared.Fault.{Fault}
+use Rattle.fault.specs.declared.Cause.the-variants.{NoSymbol, TooDeep}
+use Rattle.fault.specs.Numbers.{faultAt}
+use Rattle.symbol.specs.Values.{printable}
+use Rattle.scanner.specs.declared.gap.Move.{Move}
+use Rattle.scanner.specs.declared.gap.Move.the-variants as to
+
+-- tab, the two line ends, and the blank
+abbrev pub blank : ℕ → Bool
+blank b = eqb b 9 || (eqb b 10 || (eqb b 13 || eqb b 32))
+
+-- the bytes that a text may have
+abbrev pub allowed : ℕ → Bool
+allowed b = blank b || printable b
+
+abbrev pub opening : ℕ → ℕ → Bool
+opening b c = eqb b 40 && eqb c 42
+
+abbrev pub closing : ℕ → ℕ → Bool
+closing b c = eqb b 42 && eqb c 41
+
+-- comments nest so deep
+abbrev pub deepest : ℕ
+deepest = 32
+
+-- what to do before the bytes b and c, with d comments open
+abbrev pub moveOf : ℕ → ℕ → ℕ → Move
+moveOf d b c =
+    cond (opening b c) (cond (ltb d deepest) to.Open to.TooDeep)
+    (cond (eqb d 0) (cond (blank b) to.Pass to.Stop) (cond (closing b c) to.Close (cond (allowed b) to.Pass to.Wrong)))
+
+-- Where the gap ends by this move at the place k, given where it ends behind an opening, behind a closing and one byte on.
+abbrev pub moved : Move → ℕ → Result ℕ Fault → Result ℕ Fault → Result ℕ Fault → Result ℕ Fault
+moved to.Open k opened closed onward = opened
+moved to.Close k opened closed onward = closed
+moved to.Pass k opened closed onward = onward
+moved to.Stop k opened closed onward = Ok k
+moved to.TooDeep k opened closed onward = Err (faultAt TooDeep k)
+moved to.Wrong k opened closed onward = Err (faultAt NoSymbol k)
+
+-- where blanks and comments end, from the place k on with d comments open, before the bytes bs
+unfoldable pub gap : ℕ → ℕ → List ℕ → Result ℕ Fault
+gap d k [] = cond (eqb d 0) (Ok k) (Err (faultAt NoSymbol k))
+gap d k (b ∷ []) = moved (moveOf d b 0) k (gap (d + 1) (k + 2) []) (gap (d - 1) (k + 2) []) (gap d (k + 1) [])
+gap d k (b ∷ c ∷ bs) = moved (moveOf d b c) k (gap (d + 1) (k + 2) bs) (gap (d - 1) (k + 2) bs) (gap d (k + 1) (c ∷ bs))

@@ -1,0 +1,4 @@
+pub mod Gaps
+pub mod Fronts
+pub mod Scan
+pub mod States
