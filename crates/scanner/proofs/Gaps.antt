@@ -9,18 +9,49 @@ use lib.ListN.{length, getD, drop, length-drop}
 use native.Mathlib.Nat.{add-zero}
 use Rattle.std.proofs.shelf.Lists.{drop-drop, drop-all, getD-drop}
 use Rattle.std.proofs.shelf.Ways.{tells}
+use Rattle.std.specs.declared.result.Result.{Result}
 use Rattle.std.specs.declared.result.Result.the-variants.{Ok, Err}
-use Rattle.fault.specs.declared.Cause.the-variants.{NoSymbol}
+use Rattle.fault.specs.declared.Fault.{Fault}
+use Rattle.fault.specs.declared.Cause.the-variants.{NoSymbol, TooDeep}
 use Rattle.fault.specs.Numbers.{faultAt}
 use Rattle.scanner.specs.declared.gap.Move.{Move}
 use Rattle.scanner.specs.declared.gap.Move.the-variants as to
-use Rattle.scanner.specs.Gaps.{moveOf, moved, gap}
+use Rattle.scanner.specs.Gaps.{moveOf, gap}
+
+-- where the gap ends by this move at the place k, given where it ends behind an opening, behind a closing and one byte on
+abbrev pub moved : Move → ℕ → Result ℕ Fault → Result ℕ Fault → Result ℕ Fault → Result ℕ Fault
+moved to.Open k opened closed onward = opened
+moved to.Close k opened closed onward = closed
+moved to.Pass k opened closed onward = onward
+moved to.Stop k opened closed onward = Ok k
+moved to.TooDeep k opened closed onward = Err (faultAt TooDeep k)
+moved to.Wrong k opened closed onward = Err (faultAt NoSymbol k)
+
+pub gap-none : (d k : ℕ) → gap d k [] ≡ cond (eqb d 0) (Ok k) (Err (faultAt NoSymbol k))
+unfolding gap
+gap-none d k = refl
 
 pub gap-move : (d k : ℕ) (bs : List ℕ) → 0 < length bs → gap d k bs ≡ moved (moveOf d (getD bs 0 0) (getD bs 1 0)) k (gap (d + 1) (k + 2) (drop 2 bs)) (gap (d - 1) (k + 2) (drop 2 bs)) (gap d (k + 1) (drop 1 bs))
 unfolding gap
 gap-move d k [] h = absurd (omega arith)
-gap-move d k (b ∷ []) h = refl
-gap-move d k (b ∷ c ∷ bs) h = refl
+gap-move d k (b ∷ []) h = go (moveOf d b 0)
+  where
+    go : (m : Move) → elim m [ to.Open ↦ gap (d + 1) (k + 2) [] | to.Close ↦ gap (d - 1) (k + 2) [] | to.Pass ↦ gap d (k + 1) [] | to.Stop ↦ Ok k | to.TooDeep ↦ Err (faultAt TooDeep k) | to.Wrong ↦ Err (faultAt NoSymbol k) ] ≡ moved m k (gap (d + 1) (k + 2) []) (gap (d - 1) (k + 2) []) (gap d (k + 1) [])
+    go to.Open = refl
+    go to.Close = refl
+    go to.Pass = refl
+    go to.Stop = refl
+    go to.TooDeep = refl
+    go to.Wrong = refl
+gap-move d k (b ∷ c ∷ bs) h = go (moveOf d b c)
+  where
+    go : (m : Move) → elim m [ to.Open ↦ gap (d + 1) (k + 2) bs | to.Close ↦ gap (d - 1) (k + 2) bs | to.Pass ↦ gap d (k + 1) (c ∷ bs) | to.Stop ↦ Ok k | to.TooDeep ↦ Err (faultAt TooDeep k) | to.Wrong ↦ Err (faultAt NoSymbol k) ] ≡ moved m k (gap (d + 1) (k + 2) bs) (gap (d - 1) (k + 2) bs) (gap d (k + 1) (c ∷ bs))
+    go to.Open = refl
+    go to.Close = refl
+    go to.Pass = refl
+    go to.Stop = refl
+    go to.TooDeep = refl
+    go to.Wrong = refl
 
 -- at the place i of a whole text, where the bytes b and c stand
 module _ (d : ℕ) (xs : List ℕ) (i b c : ℕ) (m : Move) (h : i < length xs) (first : b ≡ getD xs i 0) (second : c ≡ getD xs (i + 1) 0) (e : m ≡ moveOf d b c) where

@@ -20,7 +20,8 @@ use Rattle.symbol.specs.Symbols.{Sym, number, character}
 use Rattle.symbol.specs.Values.{numberValue, characterValue}
 use Rattle.scanner.specs.declared.gap.Move.{Move}
 use Rattle.scanner.specs.declared.gap.Move.the-variants as to
-use Rattle.scanner.specs.Gaps.{moveOf, moved, gap}
+use Rattle.scanner.specs.Gaps.{moveOf, gap}
+use Rattle.scanner.proofs.Gaps.{moved, gap-none, gap-move}
 use Rattle.scanner.specs.Fronts.{Begun, run, quotes, beginsWord, beginsDigit, beginsQuote, beginsMark, begins}
 
 -- ---- gaps
@@ -49,22 +50,24 @@ no-opening d b e = let z : _≡_ {A = ℕ} 0 1 = grind (arith, tells) in omega a
 no-closing : (d b : ℕ) → moveOf d b 0 ≡ to.Close → ⊥
 no-closing d b e = let z : _≡_ {A = ℕ} 0 1 = grind (arith, tells) in omega arith
 
-end-within : (k : ℕ) (b : Bool) (x y : Result ℕ Fault) → Within k k x → Within k k y → Within k k (cond b x y)
-end-within k true x y p q = p
-end-within k false x y p q = q
+end-within : (lo hi : ℕ) (b : Bool) (x y : Result ℕ Fault) → Within lo hi x → Within lo hi y → Within lo hi (cond b x y)
+end-within lo hi true x y p q = p
+end-within lo hi false x y p q = q
 
 pub gap-within : (d k : ℕ) (bs : List ℕ) → Within k (k + length bs) (gap d k bs)
-unfolding gap
-gap-within d k [] = wider k k k (k + 0) (gap d k []) (omega arith) (omega arith) (end-within k (eqb d 0) _ _ (omega arith, omega arith) (omega arith, omega arith))
+gap-within d k [] =
+    subst (Within k (k + 0)) (sym (gap-none d k)) (end-within k (k + 0) (eqb d 0) _ _ (omega arith, omega arith) (omega arith, omega arith))
 gap-within d k (b ∷ []) =
-    moved-within k (k + length (b ∷ [])) k (moveOf d b 0) _ _ (gap d (k + 1) []) (omega arith) (omega arith)
+    subst (Within k (k + length (b ∷ []))) (sym (gap-move d k (b ∷ []) (omega arith)))
+    (moved-within k (k + length (b ∷ [])) k (moveOf d b 0) _ _ (gap d (k + 1) []) (omega arith) (omega arith)
     (λ e. absurd (no-opening d b e)) (λ e. absurd (no-closing d b e))
-    (wider (k + 1) (k + 1 + 0) k (k + length (b ∷ [])) (gap d (k + 1) []) (omega arith) (omega arith) (gap-within d (k + 1) []))
+    (wider (k + 1) (k + 1 + 0) k (k + length (b ∷ [])) (gap d (k + 1) []) (omega arith) (omega arith) (gap-within d (k + 1) [])))
 gap-within d k (b ∷ c ∷ bs) =
-    moved-within k (k + length (b ∷ c ∷ bs)) k (moveOf d b c) (gap (d + 1) (k + 2) bs) (gap (d - 1) (k + 2) bs) (gap d (k + 1) (c ∷ bs)) (omega arith) (omega arith)
+    subst (Within k (k + length (b ∷ c ∷ bs))) (sym (gap-move d k (b ∷ c ∷ bs) (omega arith)))
+    (moved-within k (k + length (b ∷ c ∷ bs)) k (moveOf d b c) (gap (d + 1) (k + 2) bs) (gap (d - 1) (k + 2) bs) (gap d (k + 1) (c ∷ bs)) (omega arith) (omega arith)
     (λ _. wider (k + 2) (k + 2 + length bs) k (k + length (b ∷ c ∷ bs)) (gap (d + 1) (k + 2) bs) (omega arith) (omega arith) (gap-within (d + 1) (k + 2) bs))
     (λ _. wider (k + 2) (k + 2 + length bs) k (k + length (b ∷ c ∷ bs)) (gap (d - 1) (k + 2) bs) (omega arith) (omega arith) (gap-within (d - 1) (k + 2) bs))
-    (wider (k + 1) (k + 1 + length (c ∷ bs)) k (k + length (b ∷ c ∷ bs)) (gap d (k + 1) (c ∷ bs)) (omega arith) (omega arith) (gap-within d (k + 1) (c ∷ bs)))
+    (wider (k + 1) (k + 1 + length (c ∷ bs)) k (k + length (b ∷ c ∷ bs)) (gap d (k + 1) (c ∷ bs)) (omega arith) (omega arith) (gap-within d (k + 1) (c ∷ bs))))
 
 -- ---- symbols
 

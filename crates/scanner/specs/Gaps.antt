@@ -36,17 +36,25 @@ moveOf d b c =
     cond (opening b c) (cond (ltb d deepest) to.Open to.TooDeep)
     (cond (eqb d 0) (cond (blank b) to.Pass to.Stop) (cond (closing b c) to.Close (cond (allowed b) to.Pass to.Wrong)))
 
--- Where the gap ends by this move at the place k, given where it ends behind an opening, behind a closing and one byte on.
-abbrev pub moved : Move → ℕ → Result ℕ Fault → Result ℕ Fault → Result ℕ Fault → Result ℕ Fault
-moved to.Open k opened closed onward = opened
-moved to.Close k opened closed onward = closed
-moved to.Pass k opened closed onward = onward
-moved to.Stop k opened closed onward = Ok k
-moved to.TooDeep k opened closed onward = Err (faultAt TooDeep k)
-moved to.Wrong k opened closed onward = Err (faultAt NoSymbol k)
-
--- where blanks and comments end, from the place k on with d comments open, before the bytes bs
+-- Where blanks and comments end, from the place k on with d comments open, before the bytes bs.
+-- (By `elim`, so that only the branch that is taken is computed.)
 unfoldable pub gap : ℕ → ℕ → List ℕ → Result ℕ Fault
 gap d k [] = cond (eqb d 0) (Ok k) (Err (faultAt NoSymbol k))
-gap d k (b ∷ []) = moved (moveOf d b 0) k (gap (d + 1) (k + 2) []) (gap (d - 1) (k + 2) []) (gap d (k + 1) [])
-gap d k (b ∷ c ∷ bs) = moved (moveOf d b c) k (gap (d + 1) (k + 2) bs) (gap (d - 1) (k + 2) bs) (gap d (k + 1) (c ∷ bs))
+gap d k (b ∷ []) =
+    elim (moveOf d b 0) [
+      | to.Open ↦ gap (d + 1) (k + 2) []
+      | to.Close ↦ gap (d - 1) (k + 2) []
+      | to.Pass ↦ gap d (k + 1) []
+      | to.Stop ↦ Ok k
+      | to.TooDeep ↦ Err (faultAt TooDeep k)
+      | to.Wrong ↦ Err (faultAt NoSymbol k)
+    ]
+gap d k (b ∷ c ∷ bs) =
+    elim (moveOf d b c) [
+      | to.Open ↦ gap (d + 1) (k + 2) bs
+      | to.Close ↦ gap (d - 1) (k + 2) bs
+      | to.Pass ↦ gap d (k + 1) (c ∷ bs)
+      | to.Stop ↦ Ok k
+      | to.TooDeep ↦ Err (faultAt TooDeep k)
+      | to.Wrong ↦ Err (faultAt NoSymbol k)
+    ]
