@@ -1,5 +1,6 @@
 -- Reserved words and marks, and how they are written.
 use Prim.Native.Nat.{ℕ}
+use mathlib.Core.Path.{_≡_}
 use mathlib.Core.Bool.{Bool, cond}
 use mathlib.Core.List.{List, [], _∷_, map}
 use lib.Chars.{codes}
@@ -99,6 +100,11 @@ wordAmong (x ∷ xs) bs = cond (sameName bs (wordSpelling x)) (Some x) (wordAmon
 
 abbrev pub reserved : List ℕ → Option Word
 reserved bs = wordAmong words bs
+
+-- what `reserved` finds is written so, and what is written as a reserved word is found
+abbrev pub Reserves : List ℕ → Option Word → Type 0
+Reserves bs (Some x) = map lower bs ≡ wordSpelling x
+Reserves bs None = (x : Word) → map lower bs ≡ wordSpelling x → ⊥
 
 abbrev pub markSpelling : Mark → List ℕ
 markSpelling m.Plus = codes "+"

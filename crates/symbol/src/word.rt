@@ -1,6 +1,6 @@
 // The reserved words. Some stand for parts of the language that are left out, but none may be a name.
 ghost use mathlib.Core.Path.{_≡_};
-ghost use Rattle.symbol.specs.Words.{wordSpelling, reserved};
+ghost use Rattle.symbol.specs.Words.{wordSpelling, reserved, Reserves};
 use crate::names::same_name;
 
 #[derive(Clone, Copy, Debug, PartialEq, Eq)]
@@ -126,7 +126,8 @@ impl Word {
 
     // The reserved word that is written so, in capital or small letters.
     pub fn of(name: &[u8]) -> Option<Word>
-        ensures { λ r. ⌜ r ≡ reserved (now (name .entry)) ⌝ }
+        ensures value { λ r. ⌜ r ≡ reserved (now (name .entry)) ⌝ }
+        ensures law { λ r. ⌜ Reserves (now (name .entry)) r ⌝ }
     {
         for word in WORDS {
             if same_name(name, word.spelling()) {
