@@ -1,6 +1,7 @@
 -- The numbers of all that can go wrong, in one place: what a host, an author or a driver is told.
 use Prim.Native.Nat.{ℕ}
-use mathlib.Core.List.{List}
+use mathlib.Core.List.{List, _++_}
+use Rattle.std.specs.Written.{decimal}
 use lib.Chars.{codes}
 use Rattle.fault.specs.declared.Layer.{Layer}
 use Rattle.fault.specs.declared.Layer.the-variants.{Reader, Checker}
@@ -52,6 +53,10 @@ pub record Told : Type 0 where
 
 abbrev pub told : Fault → Told
 told f = record { number = causeNumber (f .cause); layer = causeLayer (f .cause); place = f .place }
+
+-- the line that tells it: the word fault, number, layer and place, with blanks between
+abbrev pub faultLine : Fault → List ℕ
+faultLine f = codes "fault " ++ (decimal (told f .number) ++ (codes " " ++ (layerName (told f .layer) ++ (codes " " ++ decimal (told f .place)))))
 
 -- a fault of this cause at this place
 abbrev pub faultAt : Cause → ℕ → Fault

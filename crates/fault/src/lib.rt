@@ -1,9 +1,11 @@
 // What can go wrong, and the number of each: faults of a text, traps of a running program, refusals of a store.
 ghost use mathlib.Core.Path.{_≡_};
 ghost use Rattle.fault.specs.declared.LoadError.the-variants.{Text, NoMemory};
-ghost use Rattle.fault.specs.Numbers.{causeNumber, causeLayer, layerName, faultAt, told, trapNumber, storeErrorNumber};
+ghost use Rattle.fault.specs.Numbers.{causeNumber, causeLayer, layerName, faultAt, told, faultLine, trapNumber, storeErrorNumber};
+ghost use Rattle.std.specs.declared.option.Option.the-variants.{Some};
 use std::alloc::AllocError;
 use std::alloc::Refused;
+use std::fmt;
 
 // Who refused a text: the reader goes by symbols and grammar, the checker by names and types.
 #[derive(Clone, Copy, Debug, PartialEq, Eq)]
@@ -106,6 +108,18 @@ impl Fault {
         ensures { λ r. ⌜ r ≡ told (now (self .entry)) .layer ⌝ }
     {
         self.cause.layer()
+    }
+}
+
+// `fault NUMBER LAYER PLACE`, as the programs print it.
+pub impl fmt::Display for Fault as FaultDisplay {
+    ghost shown = { λ f. Some (faultLine f) };
+
+    fn fmt<W: fmt::Write>(&self, f: &mut fmt::Formatter<W>) -> fmt::Result {
+        let number = self.number();
+        let layer = self.layer().name();
+        let place = self.place;
+        write!(f, "fault {number} {layer} {place}")
     }
 }
 
