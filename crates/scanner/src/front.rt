@@ -3,6 +3,8 @@ ghost use mathlib.Core.Path.{_≡_};
 ghost use Prim.Native.Nat.{_≤_, _<_};
 ghost use lib.ListN.{length};
 ghost use Rattle.std.specs.Options.{mapped};
+ghost use Rattle.std.specs.declared.option.Option.the-variants.{Some};
+ghost use Rattle.symbol.specs.Symbols.{mark as markSym};
 ghost use Rattle.scanner.specs.Fronts.{begunOf, run, beginsWord, beginsDigit, beginsQuote, beginsMark, begins};
 use crate::gap::char_at;
 use symbol::Mark;
@@ -44,14 +46,14 @@ fn word_front<'t>(text: &'t [u8]) -> Option<Front<'t>>
     }
     let name = &text[0..len];
     match Word::of(name) {
-        Some(word) => Some(Front {
-            symbol: Symbol::Word(word),
-            len,
-        }),
-        None => Some(Front {
-            symbol: Symbol::Name(name),
-            len,
-        }),
+        Some(word) => {
+            let symbol = Symbol::Word(word);
+            Some(Front { symbol, len })
+        }
+        None => {
+            let symbol = Symbol::Name(name);
+            Some(Front { symbol, len })
+        }
     }
 }
 
@@ -62,15 +64,11 @@ fn digit_front<'t>(text: &'t [u8]) -> Option<Front<'t>>
     let len = run_length(text);
     let part = &text[0..len];
     if number_value(part).is_some() {
-        Some(Front {
-            symbol: Symbol::Number(part),
-            len,
-        })
+        let symbol = Symbol::Number(part);
+        Some(Front { symbol, len })
     } else if character_value(part).is_some() {
-        Some(Front {
-            symbol: Symbol::Character(part),
-            len,
-        })
+        let symbol = Symbol::Character(part);
+        Some(Front { symbol, len })
     } else {
         None
     }
@@ -88,10 +86,16 @@ fn quote_front<'t>(text: &'t [u8]) -> Option<Front<'t>>
     if character_value(part).is_none() || char_at(text, len).is_ascii_alphanumeric() {
         return None;
     }
-    Some(Front {
-        symbol: Symbol::Character(part),
-        len,
-    })
+    let symbol = Symbol::Character(part);
+    Some(Front { symbol, len })
+}
+
+// This mark, of so many bytes.
+fn marked(mark: Mark, len: usize) -> Option<Front<'static>>
+    ensures { λ r. ⌜ mapped begunOf r ≡ Some (markSym mark, len) ⌝ }
+{
+    let symbol = Symbol::Mark(mark);
+    Some(Front { symbol, len })
 }
 
 // An operator, bracket or separator.
@@ -99,88 +103,31 @@ fn mark_front(first: char, second: char) -> Option<Front<'static>>
     ensures { λ r. ⌜ mapped begunOf r ≡ beginsMark first second ⌝ }
 {
     match first {
-        '+' => Some(Front {
-            symbol: Symbol::Mark(Mark::Plus),
-            len: 1,
-        }),
-        '-' => Some(Front {
-            symbol: Symbol::Mark(Mark::Minus),
-            len: 1,
-        }),
-        '*' => Some(Front {
-            symbol: Symbol::Mark(Mark::Times),
-            len: 1,
-        }),
-        '/' => Some(Front {
-            symbol: Symbol::Mark(Mark::Slash),
-            len: 1,
-        }),
-        '=' => Some(Front {
-            symbol: Symbol::Mark(Mark::Equal),
-            len: 1,
-        }),
+        '+' => marked(Mark::Plus, 1),
+        '-' => marked(Mark::Minus, 1),
+        '*' => marked(Mark::Times, 1),
+        '/' => marked(Mark::Slash, 1),
+        '=' => marked(Mark::Equal, 1),
         '<' => match second {
-            '>' => Some(Front {
-                symbol: Symbol::Mark(Mark::NotEqual),
-                len: 2,
-            }),
-            '=' => Some(Front {
-                symbol: Symbol::Mark(Mark::LessEqual),
-                len: 2,
-            }),
-            _ => Some(Front {
-                symbol: Symbol::Mark(Mark::Less),
-                len: 1,
-            }),
+            '>' => marked(Mark::NotEqual, 2),
+            '=' => marked(Mark::LessEqual, 2),
+            _ => marked(Mark::Less, 1),
         },
         '>' => match second {
-            '=' => Some(Front {
-                symbol: Symbol::Mark(Mark::GreaterEqual),
-                len: 2,
-            }),
-            _ => Some(Front {
-                symbol: Symbol::Mark(Mark::Greater),
-                len: 1,
-            }),
+            '=' => marked(Mark::GreaterEqual, 2),
+            _ => marked(Mark::Greater, 1),
         },
         ':' => match second {
-            '=' => Some(Front {
-                symbol: Symbol::Mark(Mark::Becomes),
-                len: 2,
-            }),
-            _ => Some(Front {
-                symbol: Symbol::Mark(Mark::Colon),
-                len: 1,
-            }),
+            '=' => marked(Mark::Becomes, 2),
+            _ => marked(Mark::Colon, 1),
         },
-        '(' => Some(Front {
-            symbol: Symbol::Mark(Mark::LeftParen),
-            len: 1,
-        }),
-        ')' => Some(Front {
-            symbol: Symbol::Mark(Mark::RightParen),
-            len: 1,
-        }),
-        '[' => Some(Front {
-            symbol: Symbol::Mark(Mark::LeftBracket),
-            len: 1,
-        }),
-        ']' => Some(Front {
-            symbol: Symbol::Mark(Mark::RightBracket),
-            len: 1,
-        }),
-        '.' => Some(Front {
-            symbol: Symbol::Mark(Mark::Dot),
-            len: 1,
-        }),
-        ',' => Some(Front {
-            symbol: Symbol::Mark(Mark::Comma),
-            len: 1,
-        }),
-        ';' => Some(Front {
-            symbol: Symbol::Mark(Mark::Semicolon),
-            len: 1,
-        }),
+        '(' => marked(Mark::LeftParen, 1),
+        ')' => marked(Mark::RightParen, 1),
+        '[' => marked(Mark::LeftBracket, 1),
+        ']' => marked(Mark::RightBracket, 1),
+        '.' => marked(Mark::Dot, 1),
+        ',' => marked(Mark::Comma, 1),
+        ';' => marked(Mark::Semicolon, 1),
         _ => None,
     }
 }
