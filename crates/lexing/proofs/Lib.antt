@@ -6,3 +6,4 @@ pub mod Goods
 pub mod Steps
 pub mod Whole
 pub mod Turns
+pub mod Worked

@@ -1,4 +1,7 @@
 // All symbols of a text.
+ghost use mathlib.Core.Path.{_≡_};
+ghost use mathlib.Core.Bool.{true};
+ghost use Rattle.lexing.specs.Examples.{Examples};
 ghost use Rattle.lexing.specs.Reading.{Reads};
 ghost use Rattle.lexing.specs.Laws.{Lawful};
 use fault::Fault;
@@ -47,4 +50,11 @@ pub fn read_symbols<'t>(heap: Global, text: &'t [u8]) -> Result<Symbols<'t>, Loa
             },
         }
     }
+}
+
+// The worked examples of the definitions hold.
+pub fn examples_hold() -> bool
+    ensures { λ r. ⌜ (r ≡ true) × Examples ⌝ }
+{
+    true
 }
