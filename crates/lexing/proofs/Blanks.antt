@@ -138,3 +138,53 @@ gap-blanks d k (b ∷ []) j e = last-move d k j b (moveOf d b 0) refl (sym (gap-
 gap-blanks d k (b ∷ c ∷ bs) j e =
     by-move d k j b c bs (moveOf d b c) refl (sym (gap-move d k (b ∷ c ∷ bs) (omega arith)) ∙ e)
     (gap-blanks (d + 1) (k + 2) bs j) (gap-blanks (d - 1) (k + 2) bs j) (gap-blanks d (k + 1) (c ∷ bs) j)
+
+-- ---- where a gap ends before the last byte, something else than a gap begins
+
+abbrev Halts : List ℕ → ℕ → Type 0
+Halts bs i = moveOf 0 (getD bs i 0) (getD bs (i + 1) 0) ≡ to.Stop
+
+halts-two : (j k b c : ℕ) (bs : List ℕ) → k + 2 ≤ j → Halts bs (j - (k + 2)) → Halts (b ∷ c ∷ bs) (j - k)
+halts-two j k b c bs l h =
+    let n : j - k ≡ suc (suc (j - (k + 2))) = omega arith in
+    let m : j - k + 1 ≡ suc (suc (j - (k + 2) + 1)) = omega arith in
+    rw (m, n) h
+
+halts-one : (j k b : ℕ) (bs : List ℕ) → k + 1 ≤ j → Halts bs (j - (k + 1)) → Halts (b ∷ bs) (j - k)
+halts-one j k b bs l h =
+    let n : j - k ≡ suc (j - (k + 1)) = omega arith in
+    let m : j - k + 1 ≡ suc (j - (k + 1) + 1) = omega arith in
+    rw (m, n) h
+
+halts-here : (j k d b c : ℕ) (bs : List ℕ) → getD bs 0 0 ≡ c → j ≡ k → d ≡ 0 → moveOf d b c ≡ to.Stop → Halts (b ∷ bs) (j - k)
+halts-here j k d b c bs f e z h =
+    let n : j - k ≡ 0 = omega arith in
+    let m : j - k + 1 ≡ suc 0 = omega arith in
+    rw (m, n, f) (rw z at h)
+
+module _ (d k j b c : ℕ) (bs : List ℕ) where
+  halts-by : (m : Move) → moveOf d b c ≡ m → moved m k (gap (d + 1) (k + 2) bs) (gap (d - 1) (k + 2) bs) (gap d (k + 1) (c ∷ bs)) ≡ Ok j → (gap (d + 1) (k + 2) bs ≡ Ok j → Halts bs (j - (k + 2))) → (gap (d - 1) (k + 2) bs ≡ Ok j → Halts bs (j - (k + 2))) → (gap d (k + 1) (c ∷ bs) ≡ Ok j → Halts (c ∷ bs) (j - (k + 1))) → Halts (b ∷ c ∷ bs) (j - k)
+  halts-by to.Open e f x y z = halts-two j k b c bs (bounded (d + 1) (k + 2) j bs f) (x f)
+  halts-by to.Close e f x y z = halts-two j k b c bs (bounded (d - 1) (k + 2) j bs f) (y f)
+  halts-by to.Pass e f x y z = halts-one j k b (c ∷ bs) (bounded d (k + 1) j (c ∷ bs) f) (z f)
+  halts-by to.Stop e f x y z = let same : j ≡ k = cc in halts-here j k d b c (c ∷ bs) refl same (stopped d b c e) e
+  halts-by to.TooDeep e f x y z = let n : _≡_ {A = ℕ} 0 1 = cc in absurd (omega arith)
+  halts-by to.Wrong e f x y z = let n : _≡_ {A = ℕ} 0 1 = cc in absurd (omega arith)
+
+halts-last : (d k j b : ℕ) (m : Move) → j < k + 1 → moveOf d b 0 ≡ m → moved m k (gap (d + 1) (k + 2) []) (gap (d - 1) (k + 2) []) (gap d (k + 1) []) ≡ Ok j → Halts (b ∷ []) (j - k)
+halts-last d k j b to.Open l e f = let o = opened d b 0 e .0 in let n : _≡_ {A = ℕ} 0 1 = grind (arith, tells) in absurd (omega arith)
+halts-last d k j b to.Close l e f = let o = closed d b 0 e .0 in let n : _≡_ {A = ℕ} 0 1 = grind (arith, tells) in absurd (omega arith)
+halts-last d k j b to.Pass l e f = let end = ended d (k + 1) j (sym (gap-none d (k + 1)) ∙ f) .1 in absurd (omega arith)
+halts-last d k j b to.Stop l e f = let same : j ≡ k = cc in halts-here j k d b 0 [] refl same (stopped d b 0 e) e
+halts-last d k j b to.TooDeep l e f = let n : _≡_ {A = ℕ} 0 1 = cc in absurd (omega arith)
+halts-last d k j b to.Wrong l e f = let n : _≡_ {A = ℕ} 0 1 = cc in absurd (omega arith)
+
+pub gap-halts : (d k : ℕ) (bs : List ℕ) (j : ℕ) → j < k + length bs → gap d k bs ≡ Ok j → Halts bs (j - k)
+gap-halts d k [] j l e = let end = ended d k j (sym (gap-none d k) ∙ e) .1 in absurd (omega arith)
+gap-halts d k (b ∷ []) j l e = halts-last d k j b (moveOf d b 0) (omega arith) refl (sym (gap-move d k (b ∷ []) (omega arith)) ∙ e)
+gap-halts d k (b ∷ c ∷ bs) j l e =
+    halts-by d k j b c bs (moveOf d b c) refl (sym (gap-move d k (b ∷ c ∷ bs) (omega arith)) ∙ e)
+    (gap-halts (d + 1) (k + 2) bs j (omega arith)) (gap-halts (d - 1) (k + 2) bs j (omega arith)) (gap-halts d (k + 1) (c ∷ bs) j (omega arith))
+
+pub halt-says : (b c : ℕ) → moveOf 0 b c ≡ to.Stop → opening b c ≡ false
+halt-says b c e = grind (arith, tells)

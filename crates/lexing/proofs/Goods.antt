@@ -8,7 +8,7 @@ use native.Mathlib.Omega.{arith}
 use borrow.Author.Tests.{eqb-true}
 use lib.Dec.{eqb, leb}
 use lib.ListN.{length, getD, take, drop}
-use Rattle.std.proofs.shelf.Lists.{length-take-le, getD-drop}
+use Rattle.std.proofs.shelf.Lists.{length-take-le, getD-drop, getD-past}
 use Rattle.std.proofs.shelf.Sums.{leading-le-length}
 use Rattle.std.proofs.shelf.Ways.{tells}
 use Rattle.std.specs.Options.{isSome}
@@ -21,7 +21,8 @@ use Rattle.symbol.specs.Words.{reserved}
 use Rattle.symbol.specs.Values.{numberValue, characterValue}
 use Rattle.symbol.proofs.Reserved.{reserves}
 use Rattle.scanner.specs.Fronts.{Begun, run, wordOr, quotes, beginsWord, beginsDigit, beginsQuote, beginsMark, begins}
-use Rattle.scanner.proofs.Within.{run-some}
+use Rattle.scanner.specs.Gaps.{opening}
+use Rattle.scanner.proofs.Within.{run-some, Sized, sized-mark}
 use Rattle.lexing.proofs.Runs.{both, run-all, run-stops}
 use Rattle.lexing.proofs.Spelled.{Good, first-of, has-value, run-longest, quote-longest}
 use Rattle.lexing.proofs.Marks.{mark-good}
@@ -43,7 +44,7 @@ digit-alnum b e = grind (arith, tells)
 neither-alnum : (b : ℕ) → asciiLetter b ≡ false → asciiDigit b ≡ false → asciiAlnum b ≡ false
 neither-alnum b e f = grind (arith, tells)
 
-module _ (bs : List ℕ) (some : 0 < length bs) where
+module _ (bs : List ℕ) (some : 0 < length bs) (unopened : opening (getD bs 0 0) (getD bs 1 0) ≡ false) where
   fits : run bs ≤ length bs
   fits = leading-le-length asciiAlnum bs
 
@@ -100,9 +101,12 @@ module _ (bs : List ℕ) (some : 0 < length bs) where
         apart = ap asciiAlnum (getD-drop (quotes bs) bs 0 0 ∙ ap (λ k. getD bs k 0) (add-zero (quotes bs))) ∙ not-true (asciiAlnum (getD bs (quotes bs) 0)) (inner .1);
       }
 
+  marks-fit : (t : Sym) (n : ℕ) → beginsMark (getD bs 0 0) (getD bs 1 0) ≡ Some (t, n) → n ≤ length bs
+  marks-fit t n e = subst (Sized (length bs)) e (sized-mark (getD bs 0 0) (getD bs 1 0) (length bs) some (λ l. getD-past bs 1 0 (omega arith))) .1
+
   marks-good : asciiAlnum (getD bs 0 0) ≡ false → eqb (getD bs 0 0) 34 ≡ false → (o : Begun) → beginsMark (getD bs 0 0) (getD bs 1 0) ≡ o → AllGood bs o
   marks-good e f None h = tt
-  marks-good e f (Some p) h = mark-good bs some e f (p .0) (p .1) h
+  marks-good e f (Some p) h = mark-good bs some e f unopened (p .0) (p .1) (marks-fit (p .0) (p .1) h) h
 
   all-good : AllGood bs (begins bs)
   unfolding begins
@@ -117,5 +121,5 @@ module _ (bs : List ℕ) (some : 0 < length bs) where
       (λ g. good-cond bs (leb (quotes bs) (length bs) && (isSome (characterValue (take (quotes bs) bs)) && not (asciiAlnum (getD bs (quotes bs) 0)))) _ _ (λ h. quote-good (eqb-true b 34 g) h) (λ _. tt))
       (λ g. marks-good (neither-alnum b e f) g (beginsMark b (getD bs 1 0)) refl)))
 
-pub begins-good : (bs : List ℕ) (t : Sym) (n : ℕ) → 0 < length bs → begins bs ≡ Some (t, n) → Good bs t n
-begins-good bs t n h e = subst (AllGood bs) e (all-good bs h)
+pub begins-good : (bs : List ℕ) (t : Sym) (n : ℕ) → 0 < length bs → opening (getD bs 0 0) (getD bs 1 0) ≡ false → begins bs ≡ Some (t, n) → Good bs t n
+begins-good bs t n h o e = subst (AllGood bs) e (all-good bs h o)

@@ -7,3 +7,5 @@ pub mod Steps
 pub mod Whole
 pub mod Turns
 pub mod Worked
+pub mod Back
+pub mod Only

@@ -7,7 +7,7 @@ use native.Mathlib.Omega.{arith}
 use borrow.Author.Tests.{eqb-true}
 use lib.Dec.{eqb}
 use lib.ListN.{length, getD, take, drop}
-use Rattle.std.proofs.shelf.Lists.{length-take-le, getD-take}
+use Rattle.std.proofs.shelf.Lists.{length-take-le, getD-take, getD-drop}
 use Rattle.std.specs.Text.{asciiAlnum}
 use Rattle.std.specs.declared.option.Option.{Option}
 use Rattle.std.specs.declared.option.Option.the-variants.{Some, None}
@@ -17,10 +17,11 @@ use Rattle.symbol.specs.Symbols.{Sym, name, number, character, word, mark, endi
 use Rattle.symbol.specs.Words.{markSpelling}
 use Rattle.symbol.specs.Values.{numberValue, characterValue}
 use Rattle.scanner.specs.Fronts.{Begun, beginsMark}
+use Rattle.scanner.specs.Gaps.{opening}
 use Rattle.lexing.specs.Reading.{isEnding}
 use Rattle.lexing.specs.Spelling.{lettersOrDigits, Spells, Longest, Apart}
 use Rattle.lexing.proofs.Runs.{number-alnum, word-alnum, mark-short}
-use Rattle.lexing.proofs.Spelled.{Good, first-of, first-alnum, empty-length, unquoted}
+use Rattle.lexing.proofs.Spelled.{Good, first-of, first-alnum, unquoted}
 
 -- how many bytes begin
 abbrev bytes : Begun → ℕ
@@ -97,7 +98,41 @@ doubled m.Comma h = absurd (omega arith)
 doubled m.Colon h = absurd (omega arith)
 doubled m.Semicolon h = absurd (omega arith)
 
-module _ (bs : List ℕ) (some : 0 < length bs) (no-run : asciiAlnum (getD bs 0 0) ≡ false) (no-quote : eqb (getD bs 0 0) 34 ≡ false) where
+-- no mark of two bytes begins like a comment
+unopened-two : (x : Mark) (c : ℕ) → 2 ≤ length (markSpelling x) → opening (getD (markSpelling x) 0 0) c ≡ false
+unopened-two m.Plus c h = absurd (omega arith)
+unopened-two m.Minus c h = absurd (omega arith)
+unopened-two m.Times c h = absurd (omega arith)
+unopened-two m.Slash c h = absurd (omega arith)
+unopened-two m.Equal c h = absurd (omega arith)
+unopened-two m.NotEqual c h = refl
+unopened-two m.Less c h = absurd (omega arith)
+unopened-two m.LessEqual c h = refl
+unopened-two m.Greater c h = absurd (omega arith)
+unopened-two m.GreaterEqual c h = refl
+unopened-two m.Becomes c h = refl
+unopened-two m.LeftParen c h = absurd (omega arith)
+unopened-two m.RightParen c h = absurd (omega arith)
+unopened-two m.LeftBracket c h = absurd (omega arith)
+unopened-two m.RightBracket c h = absurd (omega arith)
+unopened-two m.Dot c h = absurd (omega arith)
+unopened-two m.Comma c h = absurd (omega arith)
+unopened-two m.Colon c h = absurd (omega arith)
+unopened-two m.Semicolon c h = absurd (omega arith)
+
+-- what stands behind the n bytes of a mark opens no comment with it
+module _ (bs : List ℕ) (unopened : opening (getD bs 0 0) (getD bs 1 0) ≡ false) where
+  mark-apart : (x : Mark) (n : ℕ) → 0 < n → n ≤ length bs → take n bs ≡ markSpelling x → Apart (mark x) (drop n bs)
+  mark-apart x zero p h e = absurd (omega arith)
+  mark-apart x (suc zero) p h e =
+      let first : getD (markSpelling x) 0 0 ≡ getD bs 0 0 = sym (ap (λ xs. getD xs 0 0) e) ∙ first-of 1 bs p in
+      rw (first, getD-drop 1 bs 0 0) unopened
+  mark-apart x (suc (suc n)) p h e =
+      let size : length (take (suc (suc n)) bs) ≡ suc (suc n) = length-take-le (suc (suc n)) bs h in
+      let long = ap length e in
+      unopened-two x (getD (drop (suc (suc n)) bs) 0 0) (omega arith)
+
+module _ (bs : List ℕ) (some : 0 < length bs) (no-run : asciiAlnum (getD bs 0 0) ≡ false) (no-quote : eqb (getD bs 0 0) 34 ≡ false) (unopened : opening (getD bs 0 0) (getD bs 1 0) ≡ false) where
   mark-longest : (t : Sym) (n : ℕ) → 0 < n → beginsMark (getD bs 0 0) (getD bs 1 0) ≡ Some (t, n) → Longest n bs
   mark-longest t n p e s k l h spelled = go s spelled
     where
@@ -128,14 +163,14 @@ module _ (bs : List ℕ) (some : 0 < length bs) (no-run : asciiAlnum (getD bs 0 
           let is : _≡_ {A = Begun} (Some (mark x, 2)) (Some (t, n)) = sym (doubled x (omega arith)) ∙ ap (λ y. beginsMark y (getD (markSpelling x) 1 0)) b ∙ ap (beginsMark (getD bs 0 0)) c ∙ e in
           let two : n ≡ 2 = sym (ap bytes is) in
           omega arith
-      go ending q = let z = empty-length (take k bs) q in omega (arith, size)
+      go ending q = q
 
-  pub mark-good : (t : Sym) (n : ℕ) → beginsMark (getD bs 0 0) (getD bs 1 0) ≡ Some (t, n) → Good bs t n
-  mark-good t n e =
+  pub mark-good : (t : Sym) (n : ℕ) → n ≤ length bs → beginsMark (getD bs 0 0) (getD bs 1 0) ≡ Some (t, n) → Good bs t n
+  mark-good t n h e =
       let w = subst (Written bs some) e (written bs some) in
       record {
         proper = ap isEnding (w .1);
         spelled = subst (λ s. Spells s (take n bs)) (sym (w .1)) (w .2);
         longest = mark-longest t n (w .3) e;
-        apart = subst (λ s. Apart s (drop n bs)) (sym (w .1)) tt;
+        apart = subst (λ s. Apart s (drop n bs)) (sym (w .1)) (mark-apart bs unopened (w .0) n (w .3) h (w .2));
       }

@@ -68,7 +68,7 @@ digits-alnum base (b ∷ bs) h e =
     rw (alnum, digits-alnum base bs h (parts .1))
 
 -- what has a value has a digit, and digits only
-digits-some : (base limit : ℕ) (bs : List ℕ) (v : ℕ) → digitsValue base limit bs ≡ Some v → (0 < length bs) × (allDigits base bs ≡ true)
+pub digits-some : (base limit : ℕ) (bs : List ℕ) (v : ℕ) → digitsValue base limit bs ≡ Some v → (0 < length bs) × (allDigits base bs ≡ true)
 unfolding digitsValue
 digits-some base limit bs v e = go (ltb 0 (length bs)) (allDigits base bs) (leb (positional base 0 bs) limit) refl refl e
   where

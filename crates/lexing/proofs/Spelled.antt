@@ -48,9 +48,6 @@ pub first-alnum : (bs : List ℕ) → 0 < length bs → lettersOrDigits bs ≡ t
 first-alnum [] h e = absurd (omega arith)
 first-alnum (b ∷ bs) h e = both (asciiAlnum b) (lettersOrDigits bs) e .0
 
-pub empty-length : (bs : List ℕ) → bs ≡ [] → length bs ≡ 0
-empty-length bs e = ap length e
-
 -- a character is in quotes, or has letters and digits only
 pub unquoted : (bs : List ℕ) (v : ℕ) → eqb (getD bs 0 0) 34 ≡ false → characterValue bs ≡ Some v → lettersOrDigits bs ≡ true
 unquoted bs v e h = ordinal-alnum bs v (rw e at h)
@@ -95,7 +92,7 @@ module _ (bs : List ℕ) (some : 0 < length bs) where
           let z : _≡_ {A = Bool} true false = sym e ∙ ap asciiAlnum f ∙ mark-first x .0 in
           let y : _≡_ {A = ℕ} 0 1 = cc in
           omega arith
-      go ending p = let z = empty-length (take n bs) p in omega (arith, size)
+      go ending p = p
 
   -- what begins with a quote has three bytes, or four
   pub quote-longest : getD bs 0 0 ≡ 34 → Longest (quotes bs) bs
@@ -136,7 +133,4 @@ module _ (bs : List ℕ) (some : 0 < length bs) where
           let z : _≡_ {A = Bool} true false = sym (ap (λ b. eqb b 34) f) ∙ mark-first x .1 in
           let y : _≡_ {A = ℕ} 0 1 = cc in
           omega arith
-      go ending p =
-          let k = long (eqb (getD bs 1 0) 34) in
-          let z = empty-length (take n bs) p in
-          omega (arith, size)
+      go ending p = p

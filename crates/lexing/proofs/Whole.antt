@@ -4,34 +4,43 @@ use mathlib.Core.Path.{_≡_, refl, sym, ap, subst, _∙_}
 use mathlib.Core.Bool.{Bool, true, false}
 use mathlib.Core.List.{List, [], _∷_, _++_}
 use mathlib.Core.Logic.{_⊎_, inl, inr}
-use native.Mathlib.Nat.{zero-add}
+use native.Mathlib.Nat.{add-zero}
 use native.Mathlib.Omega.{arith}
-use lib.ListN.{length, take, drop, length-drop}
-use Rattle.std.proofs.shelf.Lists.{append-nil, append-assoc, length-take-le, take-all, drop-drop, take-append-drop}
+use lib.ListN.{length, getD, take, drop, length-drop}
+use Rattle.std.proofs.shelf.Lists.{append-nil, append-assoc, getD-drop, length-take-le, take-all, drop-drop, take-append-drop}
 use Rattle.std.specs.declared.result.Result.{Result}
 use Rattle.std.specs.declared.result.Result.the-variants.{Ok, Err}
 use Rattle.fault.specs.declared.Fault.{Fault}
 use Rattle.symbol.specs.Symbols.{Sym, ending, PlacedSym}
+use Rattle.scanner.specs.Gaps.{opening}
 use Rattle.scanner.specs.Scan.{Step, stepTo, scan}
 use Rattle.scanner.proofs.Within.{Within, gap-within}
 use Rattle.lexing.specs.declared.Stop.{Stop}
 use Rattle.lexing.specs.declared.Stop.the-variants as stopped
 use Rattle.lexing.specs.Reading.{Reading, isEnding, stoppedAt, before, follow, readFrom, symbolsOf}
 use Rattle.lexing.specs.Spelling.{Gap, Longest, Apart}
-use Rattle.lexing.specs.Laws.{Woven, Stops, Lexed, Laws}
-use Rattle.lexing.proofs.Blanks.{gap-blanks}
+use Rattle.lexing.specs.Laws.{Woven, Stops, Lexed}
+use Rattle.lexing.proofs.Blanks.{gap-blanks, gap-halts, halt-says}
 use Rattle.lexing.proofs.Spelled.{Good}
 use Rattle.lexing.proofs.Goods.{begins-good}
 use Rattle.lexing.proofs.Steps.{Ended, Took, step-case, fault-within}
 
-follow-symbol : (more : ℕ → Reading) (t : Sym) (k j : ℕ) → isEnding t ≡ false → follow more (Ok (stepTo t k j)) ≡ before (record { symbol = t; place = k }) (more j)
+pub follow-symbol : (more : ℕ → Reading) (t : Sym) (k j : ℕ) → isEnding t ≡ false → follow more (Ok (stepTo t k j)) ≡ before (record { symbol = t; place = k }) (more j)
 follow-symbol more t k j e = rw e
 
 pub good : (text : List ℕ) (at : ℕ) (s : Step) (t : Took text at s) → Good (drop (t .place) text) (t .symbol) (t .size)
 good text at s t =
     let left = length-drop (t .place) text in
+    let before = length-drop at text in
     let below = t .below in
-    begins-good (drop (t .place) text) (t .symbol) (t .size) (omega arith) (t .front)
+    let onward = t .onward in
+    let halts = gap-halts 0 at (drop at text) (t .place) (omega arith) (t .passed) in
+    let reach : at + (t .place - at) ≡ t .place = omega arith in
+    let first : getD (drop at text) (t .place - at) 0 ≡ getD (drop (t .place) text) 0 0 = getD-drop at text (t .place - at) 0 ∙ ap (λ i. getD text i 0) (reach ∙ sym (add-zero (t .place))) ∙ sym (getD-drop (t .place) text 0 0) in
+    let next : at + (t .place - at + 1) ≡ t .place + 1 = omega arith in
+    let second : getD (drop at text) (t .place - at + 1) 0 ≡ getD (drop (t .place) text) 1 0 = getD-drop at text (t .place - at + 1) 0 ∙ ap (λ i. getD text i 0) next ∙ sym (getD-drop (t .place) text 1 0) in
+    let unopened = ap (λ b. opening b (getD (drop (t .place) text) 1 0)) (sym first) ∙ ap (opening (getD (drop at text) (t .place - at) 0)) (sym second) ∙ halt-says (getD (drop at text) (t .place - at) 0) (getD (drop at text) (t .place - at + 1) 0) halts in
+    begins-good (drop (t .place) text) (t .symbol) (t .size) (omega arith) unopened (t .front)
 
 module _ (text : List ℕ) (at : ℕ) (s : Step) (more : ℕ → Reading) where
   pub follow-ended : (e : Ended text at s) → follow more (Ok s) ≡ stoppedAt (stopped.End (e .place))
@@ -172,12 +181,6 @@ few (suc n) text at h = go (scan text at) refl (λ j. few n text j)
     go : (r : Result Step Fault) → scan text at ≡ r → ((j : ℕ) → length text - j < n → length (readFrom n text j .list) ≤ length text - j) → length (follow (readFrom n text) r .list) ≤ length text - at
     go (Err f) e more = omega arith
     go (Ok s) e more = took s more (step-case text at s e)
-
-pub laws : (text : List ℕ) (r : Reading) → r ≡ symbolsOf text → Laws text (r .list) (r .stop)
-laws text r e =
-    subst (λ (x : Reading). Laws text (x .list) (x .stop)) (sym e)
-    (let count = few (suc (length text)) text 0 (omega arith) in
-    record { lexed = lexed (suc (length text)) text 0 (omega arith) (omega arith); few = omega arith })
 
 -- ---- reading step by step
 

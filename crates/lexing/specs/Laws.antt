@@ -38,6 +38,8 @@ Lexed at bs (s ∷ ss) stop = (rest : List ℕ) × (w : Woven at bs s rest) × L
 pub record Laws (text : List ℕ) (ss : List PlacedSym) (stop : Stop) : Type 0 where
   -- the parts of the symbols and the gaps between them, put together, are the text again
   pub lexed : Lexed 0 text ss stop
+  -- there is no other way to part the text: if it can be parted to its end at all, then so
+  pub only : (ts : List PlacedSym) (k : ℕ) → Lexed 0 text ts (stopped.End k) → (ts ≡ ss) × (stopped.End k ≡ stop)
   -- no more symbols than bytes
   pub few : length ss ≤ length text
 

@@ -24,26 +24,27 @@ pub record IsName (part : List ℕ) : Type 0 where
   pub short : length part ≤ longestName
   pub free : (w : Word) → map lower part ≡ wordSpelling w → ⊥
 
--- these bytes are this symbol, written out
+-- these bytes are this symbol, written out; the text's end is no symbol of it
 abbrev pub Spells : Sym → List ℕ → Type 0
 Spells (name part) bs = (bs ≡ part) × IsName part
 Spells (number part) bs = (bs ≡ part) × ((v : ℕ) × (numberValue part ≡ Some v))
 Spells (character part) bs = (bs ≡ part) × ((v : ℕ) × (characterValue part ≡ Some v))
 Spells (word w) bs = map lower bs ≡ wordSpelling w
 Spells (mark m) bs = bs ≡ markSpelling m
-Spells ending bs = bs ≡ []
+Spells ending bs = ⊥
 
 -- No longer beginning of these bytes than the first n is a symbol.
 abbrev pub Longest : ℕ → List ℕ → Type 0
 Longest n bs = (s : Sym) (m : ℕ) → n < m → m ≤ length bs → Spells s (take m bs) → ⊥
 
--- what may stand directly behind a symbol: no letter or digit, but behind a mark
+-- What may stand directly behind a symbol: no letter or digit behind those that could have it as a part, and no `*` behind `(`,
+-- since the two would open a comment.
 abbrev pub Apart : Sym → List ℕ → Type 0
 Apart (name part) bs = asciiAlnum (getD bs 0 0) ≡ false
 Apart (number part) bs = asciiAlnum (getD bs 0 0) ≡ false
 Apart (character part) bs = asciiAlnum (getD bs 0 0) ≡ false
 Apart (word w) bs = asciiAlnum (getD bs 0 0) ≡ false
-Apart (mark m) bs = Unit {0}
+Apart (mark x) bs = opening (getD (markSpelling x) 0 0) (getD bs 0 0) ≡ false
 Apart ending bs = Unit {0}
 
 -- Blanks and whole comments: with d comments open before these bytes, none is open behind them.

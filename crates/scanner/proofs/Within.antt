@@ -80,7 +80,7 @@ sized-cond : (l : ℕ) (b : Bool) (x y : Begun) → (b ≡ true → Sized l x) �
 sized-cond l true x y h k = h refl
 sized-cond l false x y h k = k refl
 
-sized-mark : (b c l : ℕ) → 0 < l → (l < 2 → c ≡ 0) → Sized l (beginsMark b c)
+pub sized-mark : (b c l : ℕ) → 0 < l → (l < 2 → c ≡ 0) → Sized l (beginsMark b c)
 sized-mark b c l h g = grind (arith, tells, g)
 
 -- a letter or digit in front makes a run

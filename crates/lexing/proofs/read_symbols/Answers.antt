@@ -14,7 +14,8 @@ use Rattle.scanner.specs.States.{textOf, placeIn}
 use Rattle.lexing.specs.declared.Stop.the-variants as stopped
 use Rattle.lexing.specs.Reading.{isEnding, symbolsOf}
 use Rattle.lexing.proofs.Turns.{not-ending, map-push, by-fault, by-end, goes-on, by-symbol}
-use Rattle.lexing.proofs.Whole.{rest, onto, rest-whole, laws}
+use Rattle.lexing.proofs.Only.{laws}
+use Rattle.lexing.proofs.Whole.{rest, onto, rest-whole}
 use Rattle.lexing.proofs.read_symbols.Needs as need
 
 pub loop-fault-holds : need.loop-fault-holds
