@@ -1,12 +1,12 @@
--- A board's numbers stay numbers of 32 bits.
-use mathlib.Core.Path.{_≡_, refl}
+-- A board's numbers stay as many, and numbers of 32 bits.
+use mathlib.Core.Path.{_≡_, refl, _∙_}
 use mathlib.Core.Bool.{true, _&&_}
 use mathlib.Core.List.{List, [], _∷_}
 use Prim.Native.Nat.{ℕ, zero, suc}
 use native.Mathlib.Omega.{arith}
 use lib.IntN.{ℤ, pos, negℤ}
 use lib.Signed.{leZ}
-use lib.ListN.{set, replicate}
+use lib.ListN.{length, set, length-set}
 use mir.Syntax.{w32}
 use mir.Val.{SFits}
 use Rattle.std.proofs.shelf.Signed.{ints}
@@ -17,9 +17,8 @@ use Rattle.store.specs.Cells.{allCells}
 holds : (z : ℤ) → SFits w32 z → (leZ (negℤ (pos 2147483648)) z && leZ z (pos 2147483647)) ≡ true
 holds z f = grind (arith, ints)
 
-pub zeros-narrow : (n : ℕ) → allCells (replicate n (pos 0)) ≡ true
-zeros-narrow zero = refl
-zeros-narrow (suc n) = zeros-narrow n
+pub set-full : (xs : List ℤ) (n : ℕ) (v : ℤ) → length xs ≡ 2048 → length (set xs n v) ≡ 2048
+set-full xs n v h = length-set xs n v ∙ h
 
 pub set-narrow : (xs : List ℤ) (n : ℕ) (v : ℤ) → SFits w32 v → allCells xs ≡ true → allCells (set xs n v) ≡ true
 set-narrow [] n v f h = refl

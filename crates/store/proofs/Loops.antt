@@ -36,12 +36,15 @@ pub copy-more : (xs ys : List ℤ) (i : ℕ) (v : ℤ) → v ≡ getD xs i (pos 
 copy-more xs ys i v e h k =
     front-more (take i xs) ys i v (length-take-le i xs (omega arith)) k ∙ ap (λ t. t ++ drop (i + 1) ys) (ap (λ w. take i xs ++ w ∷ []) e ∙ sym (take-more xs i (pos 0) h))
 
-pub copy-all : (xs ys : List ℤ) (i : ℕ) → i ≡ min (length xs) (length ys) → take i xs ++ drop i ys ≡ copied xs ys
-copy-all xs ys i e =
+copy-front : (xs ys : List ℤ) (i : ℕ) → i ≡ min (length xs) (length ys) → take i xs ++ drop i ys ≡ copied xs ys
+copy-front xs ys i e =
     ⊎-elim
     (λ (h : (leb (length xs) (length ys) ≡ true) × (length xs ≤ length ys)). let k : i ≡ length xs = omega (arith, h .1) in rw k (ap (λ t. t ++ drop (length xs) ys) (take-all (length xs) xs (omega arith) ∙ sym (take-all (length ys) xs (h .1)))))
     (λ (h : (leb (length xs) (length ys) ≡ false) × (length ys < length xs)). let k : i ≡ length ys = omega (arith, h .1) in rw k (ap (λ t. take (length ys) xs ++ t) (drop-all (length ys) ys (omega arith) ∙ sym (drop-all (length xs) ys (omega (arith, h .1))))))
     (leb-tells (length xs) (length ys))
+
+pub copy-all : (xs ys zs : List ℤ) (i : ℕ) → i ≡ min (length xs) (length ys) → zs ≡ take i xs ++ drop i ys → zs ≡ copied xs ys
+copy-all xs ys zs i e h = h ∙ copy-front xs ys i e
 
 pub cell-is : (xs : List ℤ) (i : ℕ) (v : ℤ) → Ok v ≡ cellAt xs i → v ≡ getD xs i (pos 0)
 cell-is xs i v e = grind (arith, tells)

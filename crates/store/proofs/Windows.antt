@@ -13,7 +13,7 @@ use Rattle.std.proofs.shelf.Lists.{getD-take, getD-drop, take-set-le, drop-set-
 use Rattle.std.proofs.shelf.Tests.{lt-ltb, cond-true}
 use Rattle.std.proofs.shelf.Ways.{tells}
 use Rattle.store.specs.Cells.{cellAt, placed, window, Around, putWithin}
-use Rattle.store.specs.Windows.{PilesAreBays}
+use Rattle.store.specs.Bays.{PilesAreBays}
 
 pub window-length : (f k : ℕ) (xs : List ℤ) → length (window f k xs) ≡ min k (length xs - f)
 window-length f k xs = simp (length-take, length-drop)

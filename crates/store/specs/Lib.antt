@@ -1,4 +1,4 @@
 pub mod Cells
 pub mod Laws
 pub mod Boards
-pub mod Windows
+pub mod Bays

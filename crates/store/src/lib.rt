@@ -6,10 +6,10 @@ ghost use Prim.Native.Nat.{ℕ, _<_, min};
 ghost use lib.IntN.{ℤ, pos};
 ghost use lib.ListN.{length, set, replicate};
 ghost use mathlib.Core.Bool.{true};
-ghost use Rattle.store.specs.Cells.{allCells, cellAt, placed, window, Around, putWithin, cleared, copied};
+ghost use Rattle.store.specs.Cells.{allCells, cellAt, placed, putWithin, cleared, copied};
 ghost use Rattle.store.specs.Laws.{Bounds, Steady};
 ghost use Rattle.store.specs.Boards.{full-few, all-cells};
-ghost use Rattle.store.specs.Windows.{window-few, window-narrow, around-along, PilesAreBays};
+ghost use Rattle.store.specs.Bays.{bayCells, BayBeside, bay-bounds, bay-steady, PilesAreBays};
 use fault::StoreError;
 
 pub trait Store {
@@ -40,10 +40,12 @@ pub trait Store {
         ensures rest { λ _. ⌜ beside (now (self .entry)) (now (self .exit)) ⌝ };
 }
 
+const BOARD_CELLS: usize = 2048;
+
 // A store of its own numbers.
 #[derive(Drop)]
 pub struct Board {
-    numbers: [i32; 2048],
+    numbers: [i32; BOARD_CELLS],
     ghost full: { length numbers ≡ 2048 },
     ghost narrow: { allCells numbers ≡ true },
 }
@@ -52,7 +54,9 @@ impl Board {
     pub fn new() -> Self
         ensures { λ r. ⌜ r .numbers ≡ replicate 2048 (pos 0) ⌝ }
     {
-        Board { numbers: [0; 2048] }
+        Board {
+            numbers: [0; BOARD_CELLS],
+        }
     }
 }
 
@@ -66,11 +70,11 @@ pub impl Store for Board as BoardStore {
     ghost steady = { record { same = λ s. tt; along = λ s t u p q. tt } };
 
     fn count(&self) -> usize {
-        2048
+        BOARD_CELLS
     }
 
     fn get(&self, n: usize) -> Result<i32, StoreError> {
-        if n < 2048 {
+        if n < BOARD_CELLS {
             Ok(self.numbers[n])
         } else {
             Err(StoreError::NoCell)
@@ -78,7 +82,7 @@ pub impl Store for Board as BoardStore {
     }
 
     fn put(&mut self, n: usize, v: i32) -> Result<(), StoreError> {
-        if n >= 2048 {
+        if n >= BOARD_CELLS {
             return Err(StoreError::NoCell);
         }
         self.numbers[n] = v;
@@ -106,14 +110,13 @@ impl<S: Store> Bay<S> {
 }
 
 pub impl<S: Store> Store for Bay<S> as BayStore {
-    ghost cells = { λ s. window (s .first) (s .len) (S·Store .cells (s .below)) };
+    ghost cells = { bayCells (S·Store .cells) };
 
-    ghost bounds = { record { few = λ s. window-few (s .first) (s .len) (S·Store .cells (s .below)) (S·Store .bounds .few (s .below)); narrow = λ s. window-narrow (s .first) (s .len) (S·Store .cells (s .below)) (S·Store .bounds .narrow (s .below)) } };
+    ghost bounds = { bay-bounds (S·Store .cells) (S·Store .bounds) };
 
-    // First cell and length are the same, so are the cells before and after those of the bay, and so is what is beside the store below.
-    ghost beside = { λ s t. (s .first ≡ t .first) × (s .len ≡ t .len) × Around (s .first) (s .len) (S·Store .cells (s .below)) (S·Store .cells (t .below)) × S·Store .beside (s .below) (t .below) };
+    ghost beside = { BayBeside (S·Store .cells) (S·Store .beside) };
 
-    ghost steady = { record { same = λ s. (refl, refl, (refl, refl), S·Store .steady .same (s .below)); along = λ s t u p q. (p .0 ∙ q .0, p .1 ∙ q .1, around-along (s .first) (s .len) (t .first) (t .len) (S·Store .cells (s .below)) (S·Store .cells (t .below)) (S·Store .cells (u .below)) (p .0) (p .1) (p .2) (q .2), S·Store .steady .along (s .below) (t .below) (u .below) (p .3) (q .3)) } };
+    ghost steady = { bay-steady (S·Store .cells) (S·Store .beside) (S·Store .steady) };
 
     fn count(&self) -> usize {
         self.below.count().saturating_sub(self.first).min(self.len)
@@ -128,9 +131,9 @@ pub impl<S: Store> Store for Bay<S> as BayStore {
 
     // The promises of every store, and that of the store below exactly one cell is changed, or none.
     fn put(&mut self, n: usize, v: i32) -> Result<(), StoreError>
-        ensures value { λ r. ⌜ r ≡ placed (window (now (self .entry) .first) (now (self .entry) .len) (S·Store .cells (now (self .entry) .below))) n ⌝ }
-        ensures after { λ _. ⌜ window (now (self .exit) .first) (now (self .exit) .len) (S·Store .cells (now (self .exit) .below)) ≡ set (window (now (self .entry) .first) (now (self .entry) .len) (S·Store .cells (now (self .entry) .below))) n v ⌝ }
-        ensures rest { λ _. ⌜ (now (self .entry) .first ≡ now (self .exit) .first) × (now (self .entry) .len ≡ now (self .exit) .len) × Around (now (self .entry) .first) (now (self .entry) .len) (S·Store .cells (now (self .entry) .below)) (S·Store .cells (now (self .exit) .below)) × S·Store .beside (now (self .entry) .below) (now (self .exit) .below) ⌝ }
+        ensures value { λ r. ⌜ r ≡ placed (bayCells (S·Store .cells) (now (self .entry))) n ⌝ }
+        ensures after { λ _. ⌜ bayCells (S·Store .cells) (now (self .exit)) ≡ set (bayCells (S·Store .cells) (now (self .entry))) n v ⌝ }
+        ensures rest { λ _. ⌜ BayBeside (S·Store .cells) (S·Store .beside) (now (self .entry)) (now (self .exit)) ⌝ }
         ensures below { λ _. ⌜ S·Store .cells (now (self .exit) .below) ≡ putWithin (now (self .entry) .first) (now (self .entry) .len) (S·Store .cells (now (self .entry) .below)) n v ⌝ }
     {
         if n >= self.count() {

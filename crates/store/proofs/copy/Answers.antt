@@ -1,6 +1,5 @@
 use native.Mathlib.Omega.{arith}
 use borrow.Author.Needs.{needs}
-use mathlib.Core.Path.{_∙_}
 use mir.Syntax.{w32}
 use mir.Val.{SFits}
 use Rattle.std.proofs.shelf.Signed.{toZ-ofZ}
@@ -24,5 +23,10 @@ loop-i-again g c =
 
 pub returns : need.returns
 returns g c =
-    let e = copy-all (g .S·Store .cells (c .args .from .now)) (g .D·Store .cells (c .args .to .now)) (c .loop-i .i) (omega arith) in
-    record { value = omega arith; after = c .loop-i .inv .0 ∙ e; rest = c .loop-i .inv .1 }
+    let xs = g .S·Store .cells (c .args .from .now) in
+    let ys = g .D·Store .cells (c .args .to .now) in
+    record {
+      value = omega arith;
+      after = copy-all xs ys (g .D·Store .cells (c .loop-i .to)) (c .loop-i .i) (omega arith) (c .loop-i .inv .0);
+      rest = c .loop-i .inv .1;
+    }
