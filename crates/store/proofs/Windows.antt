@@ -1,6 +1,5 @@
 -- A window on a list: its length, its elements, what a write to one leaves, and a window on a window.
 use mathlib.Core.Path.{_≡_, refl, sym, ap, _∙_}
-use mathlib.Core.Bool.{cond}
 use mathlib.Core.List.{List, [], _∷_}
 use Prim.Native.Nat.{ℕ, zero, suc, _+_, _-_, min, _<_}
 use native.Mathlib.Nat.{sub-zero, zero-sub, zero-min, min-zero}

@@ -1,13 +1,13 @@
 // Stores: lists of cells that are read and written by number. What a store means is said once, by ghost members of the
 // trait; what works on stores is proved once, against that meaning.
-ghost use mathlib.Core.Path.{_≡_, refl, _∙_};
+ghost use mathlib.Core.Path.{_≡_};
 ghost use mathlib.Core.List.{List};
-ghost use Prim.Native.Nat.{ℕ, _<_, min};
+ghost use Prim.Native.Nat.{_<_, min};
 ghost use lib.IntN.{ℤ, pos};
 ghost use lib.ListN.{length, set, replicate};
 ghost use mathlib.Core.Bool.{true};
 ghost use Rattle.store.specs.Cells.{allCells, cellAt, placed, putWithin, cleared, copied};
-ghost use Rattle.store.specs.Laws.{Bounds, Steady};
+ghost use Rattle.store.specs.Laws.{Bounds, Steady, Remembers};
 ghost use Rattle.store.specs.Boards.{full-few, all-cells};
 ghost use Rattle.store.specs.Bays.{bayCells, BayBeside, bay-bounds, bay-steady, PilesAreBays};
 use fault::StoreError;
@@ -170,9 +170,10 @@ pub fn copy<S: Store, D: Store>(from: &S, to: &mut D) -> usize
     most
 }
 
-// A bay on a bay is one bay.
-pub fn piles_are_bays() -> u8
-    ensures { λ _. ⌜ PilesAreBays ⌝ }
+// A store remembers what is put into it and nothing else changes, and a bay on a bay is one bay.
+pub fn laws_hold() -> u8
+    ensures remembers { λ _. ⌜ Remembers ⌝ }
+    ensures piles { λ _. ⌜ PilesAreBays ⌝ }
 {
     0
 }

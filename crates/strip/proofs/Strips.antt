@@ -1,19 +1,17 @@
 -- Cells of four bytes: what a write of one leaves.
-use mathlib.Core.Path.{_≡_, refl, sym, ap, _∙_}
+use mathlib.Core.Path.{_≡_, sym, ap, _∙_}
 use mathlib.Core.Logic.{_≢_, ⊎-elim}
-use mathlib.Core.List.{List, [], _∷_, map}
-use Prim.Native.Nat.{ℕ, zero, suc, _+_, _-_, _*_, _/_, _%_, _^_, min, _≤_, _<_}
+use mathlib.Core.List.{List}
+use Prim.Native.Nat.{ℕ, _+_, _-_, _*_, _/_, min, _≤_, _<_}
 use native.Mathlib.Omega.{arith}
-use native.Mathlib.Nat.{div-add-mod, div-div-eq-div-mul, mod-eq-of-lt}
+use borrow.Author.Needs.{needs}
 use lib.Dec.{ltb}
 use lib.IntN.{ℤ, pos}
-use lib.ListN.{length, getD, set, take, drop, length-set}
+use lib.ListN.{length, getD, set, length-set}
 use mir.Syntax.{w32}
-use mir.Val.{toZ, ofZ, SFits}
-use Rattle.std.specs.Iters.{counting}
+use mir.Val.{SFits}
 use Rattle.std.proofs.shelf.Counted.{length-map-counting, getD-map-counting}
-use Rattle.std.proofs.shelf.Lists.{getD-set-same, getD-set-other, same-lists, getD-default, drop-set-lt, set-past}
-use Rattle.std.proofs.shelf.Signed.{toZ-ofZ, ints}
+use Rattle.std.proofs.shelf.Lists.{getD-set-same, getD-set-other, same-lists, drop-set-lt}
 use Rattle.std.proofs.shelf.Tests.{lt-ltb, le-ltb, cond-true, cond-false}
 use Rattle.std.proofs.shelf.Ways.{eqb-tells}
 use Rattle.strip.specs.Bytes.{bytesOf, cellOf, stripCount, stripCells, Leftover, set4, withCell}
@@ -48,21 +46,8 @@ module _ (bs : List ℕ) (at : ℕ) (ws : List ℕ) where
     same3 : getD (set4 bs at ws) (at + 3) 0 ≡ getD ws 3 0
     same3 = grind (arith, getD-set-same, getD-set-other, length-set)
 
-digits : (x : ℕ) → x < 2 ^ 32 → x / 16777216 % 256 * 16777216 + x / 65536 % 256 * 65536 + x / 256 % 256 * 256 + x % 256 ≡ x
-digits x h =
-    let e : x / 65536 ≡ x / 256 / 256 = sym (div-div-eq-div-mul x 256 256) in
-    let f : x / 16777216 ≡ x / 256 / 256 / 256 = sym (div-div-eq-div-mul (x / 256) 256 256 ∙ div-div-eq-div-mul x 256 65536) in
-    let p = div-add-mod x 256 in
-    let q = div-add-mod (x / 256) 256 in
-    let r = div-add-mod (x / 256 / 256) 256 in
-    let m : x / 256 / 256 / 256 % 256 ≡ x / 256 / 256 / 256 = mod-eq-of-lt (omega arith) in
-    rw (e, f, m) (omega arith)
-
-bits : (v : ℤ) → SFits w32 v → ofZ w32 v < 2 ^ 32
-bits v f = omega (arith, f, ints)
-
-pub read-back : (v : ℤ) → SFits w32 v → cellOf (bytesOf v) 0 ≡ v
-read-back v f = ap (toZ w32) (digits (ofZ w32 v) (bits v f)) ∙ toZ-ofZ w32 v f
+read-back : (v : ℤ) → SFits w32 v → cellOf (bytesOf v) 0 ≡ v
+read-back v f = search needs
 
 cell-same : (bs : List ℕ) (n : ℕ) (v : ℤ) → SFits w32 v → 4 * n + 3 < length bs → cellOf (set4 bs (4 * n) (bytesOf v)) n ≡ v
 cell-same bs n v f h =

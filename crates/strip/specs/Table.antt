@@ -1,6 +1,6 @@
 -- Numbers and their bytes: they lead to one another, and worked examples.
 use mathlib.Core.Path.{_≡_}
-use mathlib.Core.List.{List, [], _∷_}
+use mathlib.Core.List.{[], _∷_}
 use Prim.Native.Nat.{ℕ}
 use lib.IntN.{ℤ, pos, negℤ}
 use Rattle.store.specs.Cells.{Cell}

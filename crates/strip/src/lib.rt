@@ -1,9 +1,9 @@
 // A store over the host's own bytes: four bytes a cell, the highest first, in two's complement.
 ghost use mathlib.Core.Path.{_≡_, refl, _∙_};
 ghost use denote.Ref.{name, now as held};
-ghost use lib.ListN.{length, set};
+ghost use lib.ListN.{set};
 ghost use Prim.Native.Nat.{_<_};
-ghost use Rattle.store.specs.Cells.{cellAt, placed};
+ghost use Rattle.store.specs.Cells.{placed};
 ghost use Rattle.strip.specs.Bytes.{stripCells, Leftover, withCell};
 ghost use Rattle.strip.specs.Holds.{strip-few, strip-narrow, leftover-along};
 ghost use Rattle.strip.specs.Table.{ReadBack, Examples};
