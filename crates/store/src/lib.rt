@@ -22,6 +22,7 @@ pub trait Store {
     // Two states of one store between which all that is no cell has stayed the same.
     ghost beside: { Self → Self → Type 0 };
 
+    // So it is over no change, and over one change after another.
     ghost steady: { Steady beside };
 
     // How many cells there are.

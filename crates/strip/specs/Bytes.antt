@@ -10,11 +10,11 @@ use mir.Syntax.{w32}
 use mir.Val.{toZ, ofZ}
 use Rattle.std.specs.Iters.{counting}
 
--- the number that four bytes are
+-- the number that four bytes are, the highest first: from 2147483648 on they stand for that much less 4294967296
 abbrev pub number : ℕ → ℕ → ℕ → ℕ → ℤ
 number a b c d = toZ w32 (a * 16777216 + b * 65536 + c * 256 + d)
 
--- the four bytes of a number
+-- the four bytes of a number, the highest first
 abbrev pub bytesOf : ℤ → List ℕ
 bytesOf v = (ofZ w32 v / 16777216 % 256) ∷ (ofZ w32 v / 65536 % 256) ∷ (ofZ w32 v / 256 % 256) ∷ (ofZ w32 v % 256) ∷ []
 

@@ -1,15 +1,13 @@
 // Shows on something real what is stored where: a day's weighings in a bay over a strip of bytes.
-mod day;
-
-use day::LineDisplay;
-use day::lay_day;
-use day::line_at;
 use std::io;
 use store::Bay;
 use store::BayStore;
 use store::Store;
 use strip::Strip;
 use strip::StripStore;
+use weighings::LineDisplay;
+use weighings::lay_day;
+use weighings::line_at;
 
 // Loads of gravel in kilograms; the third corrects the second.
 const WEIGHINGS: [i32; 5] = [18340, 22015, -180, 19760, 21005];

@@ -7,7 +7,7 @@ use lib.ListN.{getD}
 use Rattle.std.specs.declared.option.Option.{Option}
 use Rattle.std.specs.declared.option.Option.the-variants.{Some, None}
 use Rattle.strip.specs.Bytes.{cellOf, stripCount}
-use Rattle.weighday.specs.declared.day.Line.{Line}
+use Rattle.weighings.specs.declared.Line.{Line}
 
 -- cell n with its own four bytes and the number that they are
 abbrev pub lineAt : List ℕ → ℕ → Option Line

@@ -2,7 +2,7 @@ use native.Mathlib.Omega.{arith}
 use Rattle.std.proofs.shelf.Signed.{toZ-ofZ}
 use Rattle.std.proofs.shelf.Ways.{tells}
 use Rattle.strip.proofs.Strips.{within, strip-length}
-use Rattle.weighday.proofs.day.line_at.Needs as need
+use Rattle.weighings.proofs.line_at.Needs as need
 
 pub returns-then-n-count : need.returns-then-n-count
 returns-then-n-count c = let l = strip-length (c .args .strip .now .bytes .now) in grind (arith, tells)

@@ -1,10 +1,10 @@
-// A day's weighings in a store, and a strip as its reader sees it.
+// A day's weighings in a store, and the cells of a strip as a reader sees them.
 ghost use mathlib.Core.Path.{_≡_};
 ghost use lib.ListN.{length};
 ghost use Prim.Native.Nat.{min};
 ghost use Rattle.store.specs.Cells.{cleared, copied};
 ghost use Rattle.store.specs.Bays.{bayCells, BayBeside};
-ghost use Rattle.weighday.specs.Lines.{lineAt};
+ghost use Rattle.weighings.specs.Lines.{lineAt};
 use std::fmt;
 use store::Bay;
 use store::BayStore;

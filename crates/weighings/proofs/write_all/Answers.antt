@@ -7,7 +7,7 @@ use mir.Syntax.{w32}
 use mir.Val.{SFits}
 use Rattle.std.proofs.shelf.Signed.{toZ-ofZ}
 use Rattle.store.proofs.Loops.{copy-more, copy-all}
-use Rattle.weighday.proofs.day.write_all.Needs as need
+use Rattle.weighings.proofs.write_all.Needs as need
 
 pub loop-i-again : need.loop-i-again
 loop-i-again g c =
