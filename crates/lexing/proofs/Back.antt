@@ -1,40 +1,38 @@
 -- Gaps and symbols are read back as what they are. Assumes nothing.
 use Prim.Native.Nat.{ℕ, zero, suc, _+_, _-_, _≤_, _<_}
 use mathlib.Core.Path.{_≡_, refl, sym, ap, subst, _∙_}
-use mathlib.Core.Bool.{Bool, true, false, cond, not, _&&_}
+use mathlib.Core.Bool.{Bool, true, false, cond}
 use mathlib.Core.List.{List, [], _∷_, _++_, map}
 use mathlib.Core.Logic.{_⊎_, inl, inr}
 use native.Mathlib.Nat.{add-zero, add-assoc}
-use native.Mathlib.Numerals.{one-add, add-one}
+use native.Mathlib.Numerals.{add-one}
 use native.Mathlib.Omega.{arith}
 use borrow.Author.Tests.{eqb-true}
-use lib.Dec.{eqb, leb, ltb}
+use lib.Dec.{eqb, leb}
 use lib.ListN.{length, getD, take, drop, length-append}
 use Rattle.std.proofs.shelf.Lists.{getD-append-left, getD-append-add, take-append-le, take-all}
 use Rattle.std.proofs.shelf.Ways.{tells}
-use Rattle.std.specs.Options.{isSome}
 use Rattle.std.specs.Text.{asciiAlnum, asciiLetter, asciiDigit, lower}
 use Rattle.std.specs.declared.option.Option.{Option}
 use Rattle.std.specs.declared.option.Option.the-variants.{Some, None}
-use Rattle.std.specs.declared.result.Result.the-variants.{Ok, Err}
+use Rattle.std.specs.declared.result.Result.the-variants.{Ok}
 use Rattle.symbol.specs.declared.word.Word.{Word}
 use Rattle.symbol.specs.declared.word.Word.the-variants as w
 use Rattle.symbol.specs.declared.mark.Mark.{Mark}
 use Rattle.symbol.specs.declared.mark.Mark.the-variants as m
 use Rattle.symbol.specs.Symbols.{Sym, name, number, character, word, mark, ending}
-use Rattle.symbol.specs.Words.{sameName, wordSpelling, markSpelling, words, wordAmong, reserved, Reserves}
+use Rattle.symbol.specs.Words.{wordSpelling, markSpelling, words, wordAmong, reserved}
 use Rattle.symbol.specs.Values.{digitIn, allDigits, digitsValue, front, lastLetter, numberValue, ordinalValue, quotedValue, plainlyQuoted, quotedQuote, characterValue}
 use Rattle.symbol.proofs.Reserved.{reserves, spelling-small}
 use Rattle.scanner.specs.declared.gap.Move.{Move}
 use Rattle.scanner.specs.declared.gap.Move.the-variants as to
 use Rattle.scanner.specs.Gaps.{blank, allowed, opening, closing, moveOf, gap}
-use Rattle.scanner.specs.Fronts.{Begun, run, wordOr, quotes, beginsWord, beginsDigit, beginsQuote, beginsMark, begins}
+use Rattle.scanner.specs.Fronts.{run, wordOr, quotes, beginsDigit, beginsMark, begins}
 use Rattle.scanner.proofs.Gaps.{moved, gap-none, gap-move}
 use Rattle.scanner.proofs.Fronts.{begins-word, begins-digit, begins-quote, begins-mark}
 use Rattle.lexing.specs.Spelling.{lettersOrDigits, IsName, Spells, Longest, Apart, Gap, done, blankThen, opens, closes, inside}
 use Rattle.lexing.proofs.Blanks.{never-empty}
 use Rattle.lexing.proofs.Runs.{both, number-alnum, ordinal-alnum, word-alnum, digits-some}
-use Rattle.lexing.proofs.Spelled.{first-alnum}
 
 -- ---- gaps
 

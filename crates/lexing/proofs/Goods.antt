@@ -1,13 +1,13 @@
 -- Every front that the scanner finds is a symbol, the longest, and stands apart. Assumes nothing.
-use Prim.Native.Nat.{ℕ, zero, suc, _+_, _-_, _≤_, _<_}
+use Prim.Native.Nat.{ℕ, _-_, _≤_, _<_}
 use mathlib.Core.Path.{_≡_, refl, sym, ap, subst, _∙_}
 use mathlib.Core.Bool.{Bool, true, false, cond, not, _&&_}
-use mathlib.Core.List.{List, [], _∷_}
+use mathlib.Core.List.{List}
 use native.Mathlib.Nat.{add-zero}
 use native.Mathlib.Omega.{arith}
 use borrow.Author.Tests.{eqb-true}
 use lib.Dec.{eqb, leb}
-use lib.ListN.{length, getD, take, drop}
+use lib.ListN.{length, getD, take}
 use Rattle.std.proofs.shelf.Lists.{length-take-le, getD-drop, getD-past}
 use Rattle.std.proofs.shelf.Sums.{leading-le-length}
 use Rattle.std.proofs.shelf.Ways.{tells}
@@ -16,11 +16,11 @@ use Rattle.std.specs.Text.{asciiAlnum, asciiLetter, asciiDigit}
 use Rattle.std.specs.declared.option.Option.{Option}
 use Rattle.std.specs.declared.option.Option.the-variants.{Some, None}
 use Rattle.symbol.specs.declared.word.Word.{Word}
-use Rattle.symbol.specs.Symbols.{Sym, name, number, character, word, mark, ending}
+use Rattle.symbol.specs.Symbols.{Sym, name, number, character, word}
 use Rattle.symbol.specs.Words.{reserved}
 use Rattle.symbol.specs.Values.{numberValue, characterValue}
 use Rattle.symbol.proofs.Reserved.{reserves}
-use Rattle.scanner.specs.Fronts.{Begun, run, wordOr, quotes, beginsWord, beginsDigit, beginsQuote, beginsMark, begins}
+use Rattle.scanner.specs.Fronts.{Begun, run, wordOr, quotes, beginsMark, begins}
 use Rattle.scanner.specs.Gaps.{opening}
 use Rattle.scanner.proofs.Within.{run-some, Sized, sized-mark}
 use Rattle.lexing.proofs.Runs.{both, run-all, run-stops}

@@ -4,15 +4,14 @@ use mathlib.Core.Path.{_≡_, refl, sym, ap, subst, _∙_}
 use mathlib.Core.Bool.{Bool, true, false, cond}
 use mathlib.Core.List.{List, [], _∷_, _++_, map}
 use mathlib.Core.Logic.{_⊎_, inl, inr}
-use native.Mathlib.Nat.{add-zero}
 use native.Mathlib.Omega.{arith}
 use lib.Dec.{eqb}
-use lib.ListN.{length, getD, take, drop, length-drop, length-append}
-use Rattle.std.proofs.shelf.Lists.{append-nil, drop-drop, drop-all}
+use lib.ListN.{length, getD, drop, length-drop, length-append}
+use Rattle.std.proofs.shelf.Lists.{append-nil, drop-drop}
 use Rattle.std.proofs.shelf.Ways.{tells}
 use Rattle.std.specs.Text.{asciiAlnum, asciiLetter, lower}
-use Rattle.std.specs.declared.option.Option.the-variants.{Some, None}
-use Rattle.std.specs.declared.result.Result.the-variants.{Ok, Err}
+use Rattle.std.specs.declared.option.Option.the-variants.{Some}
+use Rattle.std.specs.declared.result.Result.the-variants.{Ok}
 use Rattle.symbol.specs.declared.mark.Mark.{Mark}
 use Rattle.symbol.specs.declared.mark.Mark.the-variants as m
 use Rattle.symbol.specs.declared.word.Word.{Word}
@@ -22,12 +21,12 @@ use Rattle.symbol.specs.Values.{numberValue, characterValue, quotedValue, ordin
 use Rattle.scanner.specs.declared.gap.Move.the-variants as to
 use Rattle.scanner.specs.Gaps.{moveOf, gap}
 use Rattle.scanner.specs.Fronts.{begins}
-use Rattle.scanner.specs.Scan.{Step, stepTo, scan}
+use Rattle.scanner.specs.Scan.{stepTo, scan}
 use Rattle.scanner.proofs.Scans.{scan-end, scan-some}
 use Rattle.lexing.specs.declared.Stop.{Stop}
 use Rattle.lexing.specs.declared.Stop.the-variants as stopped
-use Rattle.lexing.specs.Reading.{Reading, isEnding, stoppedAt, before, follow, readFrom, symbolsOf}
-use Rattle.lexing.specs.Spelling.{lettersOrDigits, IsName, Spells, Apart, Gap}
+use Rattle.lexing.specs.Reading.{Reading, isEnding, before, follow, readFrom, symbolsOf}
+use Rattle.lexing.specs.Spelling.{lettersOrDigits, Spells, Apart, Gap}
 use Rattle.lexing.specs.Laws.{Woven, Lexed, Laws}
 use Rattle.lexing.proofs.Back.{gap-reads, symbol-reads, head, number-first, ordinal-says, quoted-says, three-at-least, spelling-short, length-lower, nonempty}
 use Rattle.lexing.proofs.Runs.{number-alnum, word-alnum}

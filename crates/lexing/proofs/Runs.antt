@@ -9,8 +9,7 @@ use lib.Dec.{eqb, leb, ltb}
 use lib.ListN.{length, getD, take, drop}
 use Rattle.std.proofs.shelf.Lists.{take-more, take-all}
 use Rattle.std.proofs.shelf.Ways.{tells}
-use Rattle.std.specs.Text.{asciiAlnum, asciiLetter, asciiDigit, lower}
-use Rattle.std.specs.declared.option.Option.{Option}
+use Rattle.std.specs.Text.{asciiAlnum, lower}
 use Rattle.std.specs.declared.option.Option.the-variants.{Some, None}
 use Rattle.symbol.specs.declared.word.Word.{Word}
 use Rattle.symbol.specs.declared.word.Word.the-variants as w

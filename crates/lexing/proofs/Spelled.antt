@@ -1,31 +1,24 @@
 -- What the scanner takes for a symbol is one, is the longest that begins there, and stands apart. Assumes nothing.
-use Prim.Native.Nat.{ℕ, zero, suc, _+_, _-_, _≤_, _<_}
+use Prim.Native.Nat.{ℕ, zero, suc, _-_, _≤_, _<_}
 use mathlib.Core.Path.{_≡_, refl, sym, ap, subst, _∙_}
-use mathlib.Core.Bool.{Bool, true, false, cond, not, _&&_}
-use mathlib.Core.List.{List, [], _∷_, map}
-use native.Mathlib.Nat.{add-zero}
+use mathlib.Core.Bool.{Bool, true, false, cond}
+use mathlib.Core.List.{List, [], _∷_}
 use native.Mathlib.Omega.{arith}
-use lib.Dec.{eqb, leb}
+use lib.Dec.{eqb}
 use lib.ListN.{length, getD, take, drop}
-use Rattle.std.proofs.shelf.Lists.{length-take-le, getD-take, getD-drop}
-use Rattle.std.proofs.shelf.Sums.{leading-le-length}
+use Rattle.std.proofs.shelf.Lists.{length-take-le, getD-take}
 use Rattle.std.proofs.shelf.Ways.{tells}
 use Rattle.std.specs.Options.{isSome}
-use Rattle.std.specs.Text.{asciiAlnum, asciiLetter, asciiDigit, lower}
+use Rattle.std.specs.Text.{asciiAlnum}
 use Rattle.std.specs.declared.option.Option.{Option}
 use Rattle.std.specs.declared.option.Option.the-variants.{Some, None}
-use Rattle.symbol.specs.declared.word.Word.{Word}
-use Rattle.symbol.specs.declared.mark.Mark.{Mark}
-use Rattle.symbol.specs.declared.mark.Mark.the-variants as m
 use Rattle.symbol.specs.Symbols.{Sym, name, number, character, word, mark, ending}
-use Rattle.symbol.specs.Words.{wordSpelling, markSpelling, reserved, Reserves}
+use Rattle.symbol.specs.Words.{markSpelling}
 use Rattle.symbol.specs.Values.{numberValue, characterValue, ordinalValue, quotedValue, plainlyQuoted, quotedQuote}
-use Rattle.symbol.proofs.Reserved.{reserves}
-use Rattle.scanner.specs.Fronts.{Begun, run, wordOr, quotes, beginsWord, beginsDigit, beginsQuote, beginsMark, begins}
-use Rattle.scanner.proofs.Within.{run-some}
+use Rattle.scanner.specs.Fronts.{run, quotes, begins}
 use Rattle.lexing.specs.Reading.{isEnding}
-use Rattle.lexing.specs.Spelling.{lettersOrDigits, IsName, Spells, Longest, Apart}
-use Rattle.lexing.proofs.Runs.{both, run-all, run-stops, run-holds, number-alnum, ordinal-alnum, word-alnum, mark-first, mark-short}
+use Rattle.lexing.specs.Spelling.{lettersOrDigits, Spells, Longest, Apart}
+use Rattle.lexing.proofs.Runs.{both, run-holds, number-alnum, ordinal-alnum, word-alnum, mark-first}
 
 pub record Good (bs : List ℕ) (t : Sym) (n : ℕ) : Type 0 where
   pub proper : isEnding t ≡ false

@@ -1,22 +1,20 @@
 -- One turn of reading, as the code makes it. Assumes nothing.
 use Prim.Native.Nat.{ℕ, _+_, _-_, _≤_, _<_}
-use mathlib.Core.Path.{_≡_, refl, sym, ap, subst, _∙_}
+use mathlib.Core.Path.{_≡_, refl, sym, ap, _∙_}
 use mathlib.Core.Bool.{Bool, true, false}
 use mathlib.Core.List.{List, [], _∷_, _++_, map}
 use mathlib.Core.Logic.{_⊎_, inl, inr}
 use native.Mathlib.Omega.{arith}
-use lib.ListN.{length, drop, length-drop}
-use Rattle.std.specs.declared.result.Result.{Result}
+use lib.ListN.{length}
 use Rattle.std.specs.declared.result.Result.the-variants.{Ok, Err}
 use Rattle.fault.specs.declared.Fault.{Fault}
 use Rattle.symbol.specs.declared.Placed.{Placed}
 use Rattle.symbol.specs.declared.Symbol.{Symbol}
 use Rattle.symbol.specs.declared.Symbol.the-variants as coded
-use Rattle.symbol.specs.Symbols.{Sym, ending, PlacedSym, symOf, placedOf}
+use Rattle.symbol.specs.Symbols.{ending, PlacedSym, symOf, placedOf}
 use Rattle.scanner.specs.Scan.{Step, scan}
 use Rattle.lexing.specs.declared.Stop.the-variants as stopped
 use Rattle.lexing.specs.Reading.{Reading, isEnding, before, symbolsOf}
-use Rattle.lexing.proofs.Spelled.{Good}
 use Rattle.lexing.proofs.Steps.{Ended, Took, step-case}
 use Rattle.lexing.proofs.Whole.{good, rest, rest-fault, rest-ended, rest-took, onto, onto-push, onto-stop}
 

@@ -1,7 +1,7 @@
 -- A whole text: its symbols from any place on, and the laws. Assumes nothing.
 use Prim.Native.Nat.{ℕ, zero, suc, _+_, _-_, _≤_, _<_}
 use mathlib.Core.Path.{_≡_, refl, sym, ap, subst, _∙_}
-use mathlib.Core.Bool.{Bool, true, false}
+use mathlib.Core.Bool.{false}
 use mathlib.Core.List.{List, [], _∷_, _++_}
 use mathlib.Core.Logic.{_⊎_, inl, inr}
 use native.Mathlib.Nat.{add-zero}
@@ -11,7 +11,7 @@ use Rattle.std.proofs.shelf.Lists.{append-nil, append-assoc, getD-drop, length-
 use Rattle.std.specs.declared.result.Result.{Result}
 use Rattle.std.specs.declared.result.Result.the-variants.{Ok, Err}
 use Rattle.fault.specs.declared.Fault.{Fault}
-use Rattle.symbol.specs.Symbols.{Sym, ending, PlacedSym}
+use Rattle.symbol.specs.Symbols.{Sym, PlacedSym}
 use Rattle.scanner.specs.Gaps.{opening}
 use Rattle.scanner.specs.Scan.{Step, stepTo, scan}
 use Rattle.scanner.proofs.Within.{Within, gap-within}

@@ -5,7 +5,7 @@ use mathlib.Core.List.{List, [], _∷_}
 use lib.Chars.{codes}
 use Rattle.std.specs.declared.option.Option.{Option}
 use Rattle.std.specs.declared.option.Option.the-variants.{Some, None}
-use Rattle.fault.specs.declared.Cause.the-variants.{NoSymbol, TooDeep}
+use Rattle.fault.specs.declared.Cause.the-variants.{NoSymbol}
 use Rattle.fault.specs.Numbers.{faultAt}
 use Rattle.symbol.specs.declared.mark.Mark.the-variants as m
 use Rattle.symbol.specs.declared.word.Word.the-variants as w

@@ -5,7 +5,6 @@ use mathlib.Core.List.{List, [], _∷_}
 use native.Mathlib.Omega.{arith}
 use lib.ListN.{length, drop, length-drop}
 use Rattle.std.proofs.shelf.Lists.{drop-all}
-use Rattle.std.specs.declared.option.Option.{Option}
 use Rattle.std.specs.declared.option.Option.the-variants.{Some, None}
 use Rattle.std.specs.declared.result.Result.{Result}
 use Rattle.std.specs.declared.result.Result.the-variants.{Ok, Err}
@@ -15,7 +14,7 @@ use Rattle.fault.specs.Numbers.{faultAt}
 use Rattle.symbol.specs.declared.Placed.{Placed}
 use Rattle.symbol.specs.Symbols.{Sym, name, number, character, word, mark, ending}
 use Rattle.scanner.specs.Gaps.{gap}
-use Rattle.scanner.specs.Fronts.{Begun, begins}
+use Rattle.scanner.specs.Fronts.{begins}
 use Rattle.scanner.specs.Scan.{stepTo, begun, symbolHere, scan}
 use Rattle.scanner.specs.States.{Past, Forward}
 use Rattle.scanner.proofs.Within.{Within, gap-within, Sized, begins-sized}

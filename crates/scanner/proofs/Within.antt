@@ -1,6 +1,6 @@
 -- Gaps and symbols stay within the text. Assumes nothing.
-use Prim.Native.Nat.{ℕ, zero, suc, _+_, _-_, _≤_, _<_}
-use mathlib.Core.Path.{_≡_, refl, sym, ap, subst, _∙_}
+use Prim.Native.Nat.{ℕ, _+_, _-_, _≤_, _<_}
+use mathlib.Core.Path.{_≡_, refl, sym, subst}
 use mathlib.Core.Bool.{Bool, true, false, cond, not, _&&_}
 use mathlib.Core.List.{List, [], _∷_}
 use native.Mathlib.Omega.{arith}
@@ -11,18 +11,17 @@ use Rattle.std.proofs.shelf.Sums.{leading-le-length}
 use Rattle.std.proofs.shelf.Ways.{tells}
 use Rattle.std.specs.Options.{isSome}
 use Rattle.std.specs.Text.{asciiAlnum, asciiLetter, asciiDigit}
-use Rattle.std.specs.declared.option.Option.{Option}
 use Rattle.std.specs.declared.option.Option.the-variants.{Some, None}
 use Rattle.std.specs.declared.result.Result.{Result}
 use Rattle.std.specs.declared.result.Result.the-variants.{Ok, Err}
 use Rattle.fault.specs.declared.Fault.{Fault}
-use Rattle.symbol.specs.Symbols.{Sym, number, character}
+use Rattle.symbol.specs.Symbols.{character}
 use Rattle.symbol.specs.Values.{numberValue, characterValue}
 use Rattle.scanner.specs.declared.gap.Move.{Move}
 use Rattle.scanner.specs.declared.gap.Move.the-variants as to
 use Rattle.scanner.specs.Gaps.{moveOf, gap}
 use Rattle.scanner.proofs.Gaps.{moved, gap-none, gap-move}
-use Rattle.scanner.specs.Fronts.{Begun, run, quotes, beginsWord, beginsDigit, beginsQuote, beginsMark, begins}
+use Rattle.scanner.specs.Fronts.{Begun, run, quotes, beginsQuote, beginsMark, begins}
 
 -- ---- gaps
 

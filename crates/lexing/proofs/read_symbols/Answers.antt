@@ -1,18 +1,13 @@
-use Prim.Native.Nat.{_≤_, _<_}
-use mathlib.Core.Path.{_≡_, refl, sym, ap, subst, _∙_}
-use mathlib.Core.Bool.{true, false}
+use mathlib.Core.Path.{_≡_, ap, _∙_}
 use mathlib.Core.List.{[], _∷_, _++_, map}
 use native.Mathlib.Omega.{arith}
-use borrow.Author.Needs.{needs}
-use lib.ListN.{length}
 use Rattle.std.proofs.Told.{chosen}
 use Rattle.std.specs.Of.Vec.{vec-items}
 use Rattle.std.specs.Results.{isOk}
 use Rattle.symbol.specs.Symbols.{symOf, placedOf}
 use Rattle.scanner.specs.Scan.{scan}
-use Rattle.scanner.specs.States.{textOf, placeIn}
-use Rattle.lexing.specs.declared.Stop.the-variants as stopped
-use Rattle.lexing.specs.Reading.{isEnding, symbolsOf}
+use Rattle.scanner.specs.States.{placeIn}
+use Rattle.lexing.specs.Reading.{isEnding}
 use Rattle.lexing.proofs.Turns.{not-ending, map-push, by-fault, by-end, goes-on, by-symbol}
 use Rattle.lexing.proofs.Only.{laws}
 use Rattle.lexing.proofs.Whole.{rest, onto, rest-whole}

@@ -1,4 +1,4 @@
-use mathlib.Core.Path.{_≡_, sym, ap, _∙_}
+use mathlib.Core.Path.{sym, _∙_}
 use Rattle.std.proofs.shelf.Lists.{length-map}
 use Rattle.std.specs.Of.Vec.{vec-items}
 use Rattle.symbol.specs.Symbols.{placedOf}

@@ -1,5 +1,4 @@
-use mathlib.Core.Path.{_≡_, sym, ap, _∙_}
-use borrow.Author.Needs.{needs}
+use mathlib.Core.Path.{sym, ap, _∙_}
 use Rattle.std.specs.Options.{isSome}
 use Rattle.scanner.proofs.Fronts.{begins-neither}
 use Rattle.scanner.proofs.front.digit_front.Needs as need

@@ -1,10 +1,9 @@
-use mathlib.Core.Path.{_≡_, sym, ap, _∙_}
+use mathlib.Core.Path.{_≡_, sym, _∙_}
 use mathlib.Core.Bool.{true, false}
 use borrow.Author.Needs.{needs}
 use lib.Dec.{eqb}
 use lib.ListN.{getD}
 use Rattle.std.specs.Text.{asciiLetter, asciiDigit}
-use Rattle.scanner.specs.Fronts.{beginsMark}
 use Rattle.scanner.proofs.Fronts.{begins-word, begins-digit, begins-quote, begins-mark}
 use Rattle.scanner.proofs.front.front_of.Needs as need
 

@@ -1,5 +1,3 @@
-use mathlib.Core.Path.{_≡_, sym, ap, _∙_}
-use borrow.Author.Needs.{needs}
 use Rattle.scanner.proofs.Fronts.{begins-reserved, begins-name}
 use Rattle.scanner.proofs.front.word_front.Needs as need
 

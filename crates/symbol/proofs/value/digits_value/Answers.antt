@@ -2,7 +2,6 @@ use Prim.Native.Nat.{_+_}
 use mathlib.Core.Path.{_≡_, sym, _∙_}
 use mathlib.Core.Bool.{false}
 use native.Mathlib.Omega.{arith}
-use borrow.Author.Needs.{needs}
 use lib.ListN.{getD, drop}
 use Rattle.std.proofs.shelf.Ways.{tells}
 use Rattle.symbol.specs.Values.{digitIn}
