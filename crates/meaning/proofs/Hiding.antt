@@ -1,0 +1,152 @@
+-- From lawful actions: who changes a cell, and what never changes.
+use Prim.{Unit, tt, ⊥, ¬_, absurd}
+use Prim.Native.Nat.{ℕ, zero, suc, _+_, _<_, _≤_}
+use native.Mathlib.Omega.{arith}
+use mathlib.Core.Path.{_≡_, refl, sym, ap, _∙_, subst}
+use mathlib.Core.Logic.{_⊎_, inl, inr}
+use mathlib.Core.Bool.{Bool, true, false, _||_}
+use mathlib.Core.List.{List, [], _∷_}
+use mathlib.Core.Option.{Option, none, some}
+use lib.ListN.{length, getD, set, drop, length-set}
+use lib.Seq.{drop-set-lt}
+use lib.IntN.{ℤ, pos}
+use lib.Dec.{T, eqb, eqb-refl}
+use Rattle.fault.specs.declared.Trap.{Trap}
+use Rattle.std.specs.declared.result.Result.{Result}
+use Rattle.std.specs.declared.result.Result.the-variants.{Ok, Err}
+use Rattle.program.specs.Types.{Simple, Writing, Shape, size}
+use Rattle.program.specs.Trees.{At, Variable, Formal, Program}
+use Rattle.program.specs.Trees.Formal.{by-const, by-var}
+use Rattle.program.specs.Cells.{Cell, cell, Cell-at, Mine, table, Dealt, inside-of, part-of}
+use Rattle.program.specs.WellFormed.{Owned, Owned-simple, Formals-owned, All-owned, Well-formed}
+use Rattle.program.proofs.Dealing.{elem-below, dealt-cells}
+use Rattle.meaning.specs.Actions.{Way, Item, Action, Cells, Line, Event, cleared, zeroed, placed, written, left}
+use Rattle.meaning.specs.Actions.Way.{direct, onward}
+use Rattle.meaning.specs.Actions.Item.{val, ref}
+use Rattle.meaning.specs.Actions.Action.{a-constant, a-take, a-read, an-index, a-sign, an-operator, a-decision, a-test, a-turn, a-store, a-write, an-entry, a-leave, a-leave-with}
+use Rattle.meaning.specs.Actions.Line.{did, was-given}
+use Rattle.meaning.specs.Meaning.{meaning}
+use Rattle.meaning.specs.Hiding.{Open, opened, Lent, By-formal, Minds, Hides, Modules-hide}
+use Rattle.meaning.specs.Hiding.By-formal.{store-onward}
+use Rattle.meaning.proofs.Lawful.{Is, Named, law, Lawful, simple-is}
+use Rattle.meaning.proofs.Typing.{set-is, lawful}
+
+-- a module's text is part of itself
+part-of-itself : (P : Program) (m : ℕ) → T (part-of P m m)
+part-of-itself P m = go (length (P .modules)) m
+  where
+    or-left : (p q : Bool) → T p → T (p || q)
+    or-left true q h = tt
+    or-left false q h = absurd h
+
+    go : (k m : ℕ) → T (inside-of k (P .modules) m m)
+    go zero m = eqb-refl m
+    go (suc k) m = or-left (eqb m m) _ (eqb-refl m)
+
+-- What a write at the cells that X speaks of does: it changes no other cell, nor the count, nor what lies beyond the program's own cells.
+abbrev Only : Program → (ℕ → Type 0) → Cells → Cells → Type 0
+Only P X σ τ =
+    ((d : ℕ) → X d ⊎ (getD τ d (pos 0) ≡ getD σ d (pos 0)))
+    × (length τ ≡ length σ)
+    × (drop (length (table P)) τ ≡ drop (length (table P)) σ)
+
+only-none : (P : Program) (X : ℕ → Type 0) (σ : Cells) → Only P X σ σ
+only-none P X σ = (λ d. inr refl, refl, refl)
+
+only-then : (P : Program) (X : ℕ → Type 0) (σ τ ρ : Cells) → Only P X σ τ → Only P X τ ρ → Only P X σ ρ
+only-then P X σ τ ρ h g =
+    ( λ d. elim (g .0 d) [ inl x ↦ inl x | inr e ↦ elim (h .0 d) [ inl x ↦ inl x | inr q ↦ inr (e ∙ q) ] ]
+    , g .1 ∙ h .1
+    , g .2 ∙ h .2)
+
+only-set : (P : Program) (X : ℕ → Type 0) (σ : Cells) (c : ℕ) (v : ℤ) → X c → (x : Cell) → Cell-at P c x → Only P X σ (set σ c v)
+only-set P X σ c v w x e =
+    ( λ d. elim (set-is σ c v d) [ inl q ↦ inl (subst X (sym (q .0)) w) | inr q ↦ inr q ]
+    , length-set σ c v
+    , drop-set-lt (length (table P)) σ c v (elem-below (table P) c x e))
+
+module _ (P : Program) (dealt : Dealt 0 (P .variables)) where
+  owned-mine : (m c : ℕ) (x : Variable) (t : Simple) → x .inside ≡ m → Cell-at P c (cell (x .inside) t) → Mine P m c
+  owned-mine m c x t e h = (cell (x .inside) t, h, subst (λ n. T (part-of P m n)) (sym e) (part-of-itself P m))
+
+  cleared-only : (m : ℕ) (x : Variable) → Owned P m x → (k n : ℕ) → k + n ≤ size (x .shape) → (c : ℕ) → c ≡ x .cell + k → (σ : Cells)
+      → Only P (Mine P m) σ (cleared c n σ)
+  cleared-only m x w k zero l c e σ = only-none P (Mine P m) σ
+  cleared-only m x w k (suc n) l c e σ =
+      let f = dealt-cells P dealt x (w .0) k (omega arith) in
+      let h = subst (λ c. Cell-at P c (cell (x .inside) (f .0))) (sym e) (f .1) in
+      only-then P (Mine P m) σ (cleared (suc c) n σ) _ (cleared-only m x w (suc k) n (omega arith) (suc c) (omega arith) σ)
+        (only-set P (Mine P m) (cleared (suc c) n σ) c (pos 0) (owned-mine m c x (f .0) (w .1) h) _ h)
+
+  zeroed-only : (m : ℕ) (xs : List Variable) → All-owned P m xs → (σ : Cells) → Only P (Mine P m) σ (zeroed xs σ)
+  zeroed-only m [] w σ = only-none P (Mine P m) σ
+  zeroed-only m (x ∷ xs) w σ =
+      only-then P (Mine P m) σ (zeroed xs σ) _ (zeroed-only m xs (w .1) σ)
+        (cleared-only m x (w .0) 0 (size (x .shape)) (omega arith) (x .cell) (omega arith) (zeroed xs σ))
+
+  placed-only : (m : ℕ) (fs : List Formal) (is : List Item) → Formals-owned P m fs → (σ : Cells) → Only P (Mine P m) σ (placed fs is σ)
+  placed-only m [] is w σ = only-none P (Mine P m) σ
+  placed-only m (by-const x t ∷ fs) [] w σ = only-none P (Mine P m) σ
+  placed-only m (by-const x t ∷ fs) (val v ∷ is) w σ =
+      let i = simple-is P dealt m x t (w .0) in
+      only-then P (Mine P m) σ (placed fs is σ) _ (placed-only m fs is (w .1) σ)
+        (only-set P (Mine P m) (placed fs is σ) (x .cell) v (formal-mine m x t (w .0)) _ (i .1))
+    where
+      formal-mine : (m : ℕ) (x : Variable) (t : Simple) → Owned-simple P m x t → Mine P m (x .cell)
+      formal-mine m x t h =
+          let s : 0 < size (x .shape) = subst (λ s. 0 < size s) (sym (h .2)) (omega arith) in
+          let f = dealt-cells P dealt x (h .0) 0 s in
+          owned-mine m (x .cell) x (f .0) (h .1) (subst (λ c. Cell-at P c (cell (x .inside) (f .0))) (let e : x .cell + 0 ≡ x .cell = omega arith in e) (f .1))
+  placed-only m (by-const x t ∷ fs) (ref b y ∷ is) w σ = placed-only m fs is (w .1) σ
+  placed-only m (by-var s ∷ fs) [] w σ = only-none P (Mine P m) σ
+  placed-only m (by-var s ∷ fs) (i ∷ is) w σ = placed-only m fs is w σ
+
+  -- who may change the cell c by this action, in the module m
+  abbrev May : List Open → ℕ → Action → ℕ → Type 0
+  May o m a c = Mine P m c ⊎ (By-formal a × Lent P c o)
+
+  only-weaker : (X Y : ℕ → Type 0) (σ τ : Cells) → ((c : ℕ) → X c → Y c) → Only P X σ τ → Only P Y σ τ
+  only-weaker X Y σ τ f h = (λ d. elim (h .0 d) [ inl x ↦ inl (f d x) | inr e ↦ inr e ], h .1, h .2)
+
+  by-name : (o : List Open) (m : ℕ) (w : Way) (c : ℕ) (v : ℤ) → Named P o (some m) w c → May o m (a-store w c v) c
+  by-name o m direct c v n = inl n
+  by-name o m onward c v n = inr (store-onward, n)
+
+  written-only : (o : List Open) (m : ℕ) (a : Action) → law P o m a → (σ : Cells) → Only P (May o m a) σ (written a σ)
+  written-only o m (a-constant v) l σ = only-none P _ σ
+  written-only o m (a-take d t) l σ = only-none P _ σ
+  written-only o m (a-read a t) l σ = only-none P _ σ
+  written-only o m (an-index base w low high s v) l σ = only-none P _ σ
+  written-only o m (a-sign g v) l σ = only-none P _ σ
+  written-only o m (an-operator p x y) l σ = only-none P _ σ
+  written-only o m (a-decision j v) l σ = only-none P _ σ
+  written-only o m (a-test v) l σ = only-none P _ σ
+  written-only o m a-turn l σ = only-none P _ σ
+  written-only o m (a-store w c v) l σ = only-set P (May o m (a-store w c v)) σ c v (by-name o m w c v (l .3)) _ (l .1 .1)
+  written-only o m (a-write a v) l σ = only-none P _ σ
+  written-only o m (an-entry n fs zs is) l σ =
+      only-weaker (Mine P m) _ σ _ (λ c h. inl h)
+        (only-then P (Mine P m) σ (zeroed zs σ) _ (zeroed-only m zs (l .2) σ) (placed-only m fs is (l .1) (zeroed zs σ)))
+  written-only o m a-leave l σ = only-none P _ σ
+  written-only o m (a-leave-with r t) l σ = only-none P _ σ
+
+  left-only : (o : List Open) (m : ℕ) (a : Action) → law P o m a → (r : Result ℤ Trap) (σ : Cells) → Only P (May o m a) σ (left a r σ)
+  left-only o m a l (Ok v) σ = written-only o m a l σ
+  left-only o m a l (Err t) σ = only-none P _ σ
+
+  minds : (o : List Open) (at : At) (a : Action) → law P o (at .inside) a → (r : Result ℤ Trap) (σ : Cells) → Minds P o at a r σ
+  minds o at a l r σ =
+      let w = left-only o (at .inside) a l r σ in
+      record {
+        changes = λ c n. elim (w .0 c) [ inl x ↦ x | inr e ↦ absurd (n e) ];
+        count = w .1;
+        beyond = w .2;
+        opens = λ base u low high s v e. subst (law P o (at .inside)) e l }
+
+  hides : (o : List Open) (l : List Line) → Lawful P o l → Hides P o l
+  hides o [] g = tt
+  hides o (did at d a σ r ∷ l) g = (minds o at a (g .1) r σ, hides (opened o a) l (g .2))
+  hides o (was-given a t v ∷ l) g = hides o l g
+
+pub modules-hide : Modules-hide
+modules-hide P w es = hides P (w .1) [] (meaning P es .log) (lawful P w es)

@@ -1,0 +1,4 @@
+pub mod Operators
+pub mod Lawful
+pub mod Typing
+pub mod Hiding

@@ -1,0 +1,5 @@
+use Rattle.meaning.proofs.Typing.{types-kept}
+use Rattle.meaning.proofs.types_kept.Needs as need
+
+pub returns : need.returns
+returns c = types-kept
