@@ -1,0 +1,4 @@
+-- The step machine, and what is proved of it.
+pub mod Machine
+pub mod Moves
+pub mod Theorems
