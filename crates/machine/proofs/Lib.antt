@@ -1,3 +1,5 @@
 pub mod Local
 pub mod Simulates
 pub mod Moves
+pub mod Height
+pub mod Order

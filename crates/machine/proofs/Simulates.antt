@@ -29,11 +29,11 @@ use Rattle.meaning.specs.Actions.Line.{did, was-given}
 use Rattle.meaning.specs.Actions.Event.{step, give, took}
 use Rattle.meaning.specs.Actions.State.{ready, finished, trapped, awaiting, offering}
 use Rattle.meaning.specs.Meaning.{M, Done, return, act, await, deliver, goes-on, if-fits, choose, eval, locate, actuals, exec, arms, turn, applied, called, _>>_, _>>=_, cell-of, way, moved, lent, needed, meaning}
-use Rattle.machine.specs.Machine.{Task, Held, Config, Next, Answer, the-value, the-cell, the-way, top, push, pop, pops, opens, closes, enters, leaves, formals, then, how-many, next-take, next-select, next-apply, next-call, next-eval, next-locate, next-pass, next-exec, next-arms, next-turn, next-task, next-of, next, state-of, acted, answer, after, run, start, kept, accepted}
+use Rattle.machine.specs.Machine.{Task, Held, Config, Next, Answer, the-value, the-cell, the-way, top, push, pop, pops, opens, closes, enters, leaves, formals, then, how-many, next-take, next-select, next-apply, next-call, next-eval, next-locate, next-pass, next-exec, next-arms, next-turn, next-task, next-of, next, state-of, acted, answer, after, run, start}
 use Rattle.machine.specs.Machine.Task.{to-eval, to-locate, to-pass, to-exec, to-arms, to-turn, to-take, to-receive, to-sign, to-operate, to-decide, to-index, to-select, to-store, to-write, to-deliver, to-test, to-while, to-until, to-exit, to-close, to-apply, to-call, to-leave, to-leave-with}
 use Rattle.machine.specs.Machine.Next.{none, acts, awaits, offers}
 use Rattle.machine.specs.Machine.Answer.{refused, went-on, was-taken, fell}
-use Rattle.machine.specs.Theorems.{Simulates, Only-accepted, In-order, actions, steps-in}
+use Rattle.machine.specs.Theorems.{Simulates}
 use Rattle.machine.proofs.Local.{while-turns, repeat-turns, loop-turns}
 
 abbrev push-all : List Item → Held → Held
@@ -314,67 +314,3 @@ run-resumes (e ∷ es) c =
 
 pub simulates : Simulates
 simulates P es = run-resumes es (start P)
-
--- one step of `run` on a call that is not refused, under the equation that says so
-kept-runs : (es : List Event) (k : Config → List Event) → ((c : Config) → run c es ≡ run c (k c))
-    → (c : Config) (e : Event) (x : Answer) → answer (next c) e ≡ x
-    → after (λ c. run c es) c x ≡ run c (kept e k c x)
-kept-runs es k h c e refused q = h c
-kept-runs es k h c e (went-on l c′) q = ap (also l) (h c′) ∙ ap (after (λ c. run c (k c′)) c) (sym q)
-kept-runs es k h c e (was-taken c′) q = h c′ ∙ ap (after (λ c. run c (k c′)) c) (sym q)
-kept-runs es k h c e (fell l n p) q = ap (after (λ c. run c []) c) (sym q)
-
-accepted-runs : (es : List Event) (c : Config) → run c es ≡ run c (accepted c es)
-accepted-runs [] c = refl
-accepted-runs (e ∷ es) c = kept-runs es (λ c. accepted c es) (accepted-runs es) c e (answer (next c) e) refl
-
-pub only-accepted : Only-accepted
-only-accepted P es = accepted-runs es (start P) ∙ simulates P (accepted (start P) es)
-
--- what has been done stays
-after-more : (k k′ : Config → Run) → ((c : Config) → (l : List Line) × (k c .log ≡ k′ c .log ++ l))
-    → (c : Config) (x : Answer) → (l : List Line) × (after k c x .log ≡ after k′ c x .log ++ l)
-after-more k k′ h c refused = h c
-after-more k k′ h c (went-on l c′) = let r = h c′ in (r .0, ap (λ m. l ∷ m) (r .1))
-after-more k k′ h c (was-taken c′) = h c′
-after-more k k′ h c (fell l n p) = ([], refl)
-
-run-more : (es fs : List Event) (c : Config) → (l : List Line) × (run c (es ++ fs) .log ≡ run c es .log ++ l)
-run-more [] fs c = (run c fs .log, refl)
-run-more (e ∷ es) fs c = after-more (λ c. run c (es ++ fs)) (λ c. run c es) (run-more es fs) c (answer (next c) e)
-
--- as many actions as accepted steps
-acted-count : (k : Config → Run) (m : Config → List Event) → ((c : Config) → actions (k c .log) ≡ steps-in (m c))
-    → (c₀ : Config) (at : At) (d : ℕ) (a : Action) (c : ℤ → Config) (σ : Cells) (r : Result ℤ Trap)
-    → actions (after k c₀ (acted at d a c σ r) .log) ≡ steps-in (kept (step σ) m c₀ (acted at d a c σ r))
-acted-count k m h c₀ at d a c σ (Ok v) = ap suc (h (c v))
-acted-count k m h c₀ at d a c σ (Err p) = refl
-
-given-count : (k : Config → Run) (m : Config → List Event) → ((c : Config) → actions (k c .log) ≡ steps-in (m c))
-    → (c₀ c : Config) (a : ℕ) (t : Simple) (v : ℤ) (b : Bool)
-    → actions (after k c₀ (cond b (went-on (was-given a t v) c) refused) .log) ≡ steps-in (kept (give v) m c₀ (cond b (went-on (was-given a t v) c) refused))
-given-count k m h c₀ c a t v true = h c
-given-count k m h c₀ c a t v false = h c₀
-
-answer-count : (k : Config → Run) (m : Config → List Event) → ((c : Config) → actions (k c .log) ≡ steps-in (m c))
-    → (c : Config) (n : Next) (e : Event) → actions (after k c (answer n e) .log) ≡ steps-in (kept e m c (answer n e))
-answer-count k m h c none e = h c
-answer-count k m h c (acts at d a c′) (step σ) = acted-count k m h c at d a c′ σ (outcome d a σ)
-answer-count k m h c (acts at d a c′) (give v) = h c
-answer-count k m h c (acts at d a c′) took = h c
-answer-count k m h c (awaits a t c′) (step σ) = h c
-answer-count k m h c (awaits a t c′) (give v) = given-count k m h c (c′ v) a t v (fits t v)
-answer-count k m h c (awaits a t c′) took = h c
-answer-count k m h c (offers a v c′) (step σ) = h c
-answer-count k m h c (offers a v c′) (give w) = h c
-answer-count k m h c (offers a v c′) took = h c′
-
-run-count : (es : List Event) (c : Config) → actions (run c es .log) ≡ steps-in (accepted c es)
-run-count [] c = refl
-run-count (e ∷ es) c = answer-count (λ c. run c es) (λ c. accepted c es) (run-count es) c (next c) e
-
-pub in-order : In-order
-in-order P es =
-    (ap (λ r. actions (r .log)) (sym (simulates P es)) ∙ run-count es (start P)
-    , λ fs. let r = run-more es fs (start P) in
-        (r .0, ap (λ r. r .log) (sym (simulates P (es ++ fs))) ∙ r .1 ∙ ap (λ x. x .log ++ r .0) (simulates P es)))

@@ -1,4 +1,5 @@
 -- The step machine, and what is proved of it.
 pub mod Machine
 pub mod Moves
+pub mod Height
 pub mod Theorems

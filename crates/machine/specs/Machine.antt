@@ -286,7 +286,7 @@ abbrev pub after : (Config → Run) → Config → Answer → Run
 after k c refused = k c
 after k c (went-on l c′) = also l (k c′)
 after k c (was-taken c′) = k c′
-after k c (fell l n p) = also l (stop (trapped n p))
+after k c (fell l t p) = also l (stop (trapped t p))
 
 -- a run of the machine, call by call
 abbrev pub run : Config → List Event → Run
@@ -296,13 +296,28 @@ run c (e ∷ es) = after (λ c. run c es) c (answer (next c) e)
 abbrev pub start : Program → Config
 start P = then (to-exec (whole-body (P .bodies)) ∷ []) (record { waiting = []; depth = 0; lents = [] })
 
--- the calls that are not refused
+-- where the machine is after some calls
+pub data Now : Type 0 where
+  there : Config → Now
+  fallen : Trap → (place : ℕ) → Now
+
+abbrev pub moved-on : (Config → Now) → Config → Answer → Now
+moved-on k c refused = k c
+moved-on k c (went-on l c′) = k c′
+moved-on k c (was-taken c′) = k c′
+moved-on k c (fell l t p) = fallen t p
+
+abbrev pub arrives : Config → List Event → Now
+arrives c [] = there c
+arrives c (e ∷ es) = moved-on (λ c. arrives c es) c (answer (next c) e)
+
+-- the calls that the machine does not refuse
 abbrev pub kept : Event → (Config → List Event) → Config → Answer → List Event
 kept e k c refused = k c
 kept e k c (went-on l c′) = e ∷ k c′
 kept e k c (was-taken c′) = e ∷ k c′
-kept e k c (fell l n p) = e ∷ []
+kept e k c (fell l t p) = e ∷ []
 
-abbrev pub accepted : Config → List Event → List Event
-accepted c [] = []
-accepted c (e ∷ es) = kept e (λ c. accepted c es) c (answer (next c) e)
+abbrev pub not-refused : Config → List Event → List Event
+not-refused c [] = []
+not-refused c (e ∷ es) = kept e (λ c. not-refused c es) c (answer (next c) e)

@@ -20,7 +20,7 @@ use Rattle.meaning.specs.Actions.Way.{direct, onward}
 use Rattle.meaning.specs.Actions.Item.{val, ref}
 use Rattle.meaning.specs.Actions.Action.{a-constant, a-take, a-read, an-index, a-sign, an-operator, a-decision, a-test, a-turn, a-store, a-write, an-entry, a-leave, a-leave-with}
 use Rattle.meaning.specs.Meaning.{cell-of, way}
-use Rattle.machine.specs.Machine.{Task, Held, Config, Next, Answer, the-value, the-cell, the-way, top, push, pop, pops, opens, closes, enters, leaves, formals, then, how-many, next-take, next-select, next-apply, next-call, next-eval, next-locate, next-pass, next-exec, next-arms, next-turn, next-task, next-of, next, state-of, acted, answer, after, run, start, kept, accepted}
+use Rattle.machine.specs.Machine.{Task, Held, Config, Next, Answer, the-value, the-cell, the-way, top, push, pop, pops, opens, closes, enters, leaves, formals, then, how-many, next-take, next-select, next-apply, next-call, next-eval, next-locate, next-pass, next-exec, next-arms, next-turn, next-task, next-of, next, state-of, acted, answer, after, run, start}
 use Rattle.machine.specs.Machine.Task.{to-eval, to-locate, to-pass, to-exec, to-arms, to-turn, to-take, to-receive, to-sign, to-operate, to-decide, to-index, to-select, to-store, to-write, to-deliver, to-test, to-while, to-until, to-exit, to-close, to-apply, to-call, to-leave, to-leave-with}
 use Rattle.machine.specs.Machine.Next.{none, acts, awaits, offers}
 use Rattle.machine.specs.Machine.Answer.{refused, went-on, was-taken, fell}

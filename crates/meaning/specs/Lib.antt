@@ -3,3 +3,4 @@ pub mod Actions
 pub mod Meaning
 pub mod Typing
 pub mod Hiding
+pub mod Order

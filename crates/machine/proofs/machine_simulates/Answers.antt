@@ -1,0 +1,5 @@
+use Rattle.machine.proofs.Simulates.{simulates}
+use Rattle.machine.proofs.machine_simulates.Needs as need
+
+pub returns : need.returns
+returns c = simulates

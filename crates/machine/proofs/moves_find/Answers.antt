@@ -1,0 +1,5 @@
+use Rattle.machine.proofs.Moves.{moves-find}
+use Rattle.machine.proofs.moves_find.Needs as need
+
+pub returns : need.returns
+returns c = moves-find
