@@ -189,7 +189,7 @@ arrives-low : (n : ℕ) (es : List Event) (c : Config) → peak (c .tasks) ≤ n
 arrives-low n [] c p = (let q = length-low (c .tasks) in omega arith, p)
 arrives-low n (e ∷ es) c p =
     answer-low n (λ c. arrives c es) c (arrives-low n es c p) (arrives-low n es) (next c)
-      (next-weaker (peak (c .tasks)) n p (next c) (next-low (suc (weight (c .tasks))) (c .tasks) (c .held) (omega arith))) e
+    (next-weaker (peak (c .tasks)) n p (next c) (next-low (suc (weight (c .tasks))) (c .tasks) (c .held) (omega arith))) e
 
 pub stays-low : Stays-low
 stays-low = (length-low, move-low, λ P es. arrives-low (height P) es (start P) (omega arith))

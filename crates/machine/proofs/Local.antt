@@ -99,14 +99,14 @@ pub unrolls : (F : M Done → M Done) → Turning F → (k : Done → Behaviour)
 unfolding again-and-again
 unrolls F h k es =
     h (length es) (unroll (λ again. F (λ _. again) k) (length es)) (again-and-again F k) k k
-      (λ js l. sym (unroll-stable (λ again. F (λ _. again) k) (λ m X Y hX. h m X Y k k hX (λ u js b. refl)) (suc (length js)) (length es) l js (omega arith)))
-      (λ u js b. refl) es (omega arith)
+    (λ js l. sym (unroll-stable (λ again. F (λ _. again) k) (λ m X Y hX. h m X Y k k hX (λ u js b. refl)) (suc (length js)) (length es) l js (omega arith)))
+    (λ u js b. refl) es (omega arith)
 
 pub again-local : (F : M Done → M Done) → Turning F → Local (again-and-again F)
 unfolding again-and-again
 again-local F h n k k′ hk es l =
     unroll-agree n (λ again. F (λ _. again) k) (λ again. F (λ _. again) k′)
-      (λ m lm X Y hX. h m X Y k k′ hX (λ u js b. hk u js (omega arith))) (suc (length es)) l es (omega arith)
+    (λ m lm X Y hX. h m X Y k k′ hX (λ u js b. hk u js (omega arith))) (suc (length es)) l es (omega arith)
 
 -- the turns of the three loops
 abbrev pub while-turn : List ℕ → ℕ → At → At → Expr → Stmt → M Done → M Done
@@ -198,7 +198,7 @@ mutual
   turn-local ls d (ends s) n X Y k k′ hX hk = exec-local ls d s n _ _ λ _. hX
   turn-local ls d (exits s at e s′ b) n X Y k k′ hX hk =
       exec-local ls d s n _ _ λ _. eval-local ls d e n _ _ λ v. act-local at _ _ n _ _ λ _.
-        exits-agree n (truth v) _ _ _ _ _ (exec-local ls d s′ n k k′ hk) (turn-local ls d b n X Y k k′ hX hk)
+      exits-agree n (truth v) _ _ _ _ _ (exec-local ls d s′ n k k′ hk) (turn-local ls d b n X Y k k′ hX hk)
 
   pub applied-local : (p : Function) (d : ℕ) (at : At) (is : List Item) → Local (applied p d at is)
   applied-local (function m fs r t vs body) d at is n k k′ h =

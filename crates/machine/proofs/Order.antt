@@ -161,19 +161,22 @@ module _ (P : Program) (es : List Event) where
 
   answers-there : (c : Config) (x : Next) → Goes-on (there c) → r .state ≡ state-of x → next c ≡ x → Answers P es (state-of x)
   answers-there c none g s q = λ fs. g fs ∙ ap (joined r) (idle c q fs) ∙ joined-stop r finished s
-  answers-there c (acts at d a c′) g s q =
-      ((at, d, a, λ σ. ap (λ r. r .log) (g (step σ ∷ [])) ∙ ap (λ l. r .log ++ l) (ap (λ r. r .log) (one c _ q (step σ)) ∙ acted-log c at d a c′ σ (outcome d a σ)))
-      , λ v. stays-so c _ g s q (give v) (one c _ q (give v))
-      , stays-so c _ g s q took (one c _ q took))
-  answers-there c (awaits a t c′) g s q =
-      (λ σ. stays-so c _ g s q (step σ) (one c _ q (step σ))
-      , λ v f. ap (λ r. r .log) (g (give v ∷ [])) ∙ ap (λ l. r .log ++ l) (ap (λ r. r .log) (one c _ q (give v)) ∙ given-log c (c′ v) a t v (fits t v) f)
-      , λ v f. stays-so c _ g s q (give v) (one c _ q (give v) ∙ given-refused c (c′ v) a t v (fits t v) f)
-      , stays-so c _ g s q took (one c _ q took))
-  answers-there c (offers a v c′) g s q =
-      (λ σ. stays-so c _ g s q (step σ) (one c _ q (step σ))
-      , λ w. stays-so c _ g s q (give w) (one c _ q (give w))
-      , ap (λ r. r .log) (g (took ∷ [])) ∙ ap (λ l. r .log ++ l) (ap (λ r. r .log) (one c _ q took)) ∙ append-nil (r .log))
+  answers-there c (acts at d a c′) g s q = (
+    (at, d, a, λ σ. ap (λ r. r .log) (g (step σ ∷ [])) ∙ ap (λ l. r .log ++ l) (ap (λ r. r .log) (one c _ q (step σ)) ∙ acted-log c at d a c′ σ (outcome d a σ))),
+    λ v. stays-so c _ g s q (give v) (one c _ q (give v)),
+    stays-so c _ g s q took (one c _ q took),
+  )
+  answers-there c (awaits a t c′) g s q = (
+    λ σ. stays-so c _ g s q (step σ) (one c _ q (step σ)),
+    λ v f. ap (λ r. r .log) (g (give v ∷ [])) ∙ ap (λ l. r .log ++ l) (ap (λ r. r .log) (one c _ q (give v)) ∙ given-log c (c′ v) a t v (fits t v) f),
+    λ v f. stays-so c _ g s q (give v) (one c _ q (give v) ∙ given-refused c (c′ v) a t v (fits t v) f),
+    stays-so c _ g s q took (one c _ q took),
+  )
+  answers-there c (offers a v c′) g s q = (
+    λ σ. stays-so c _ g s q (step σ) (one c _ q (step σ)),
+    λ w. stays-so c _ g s q (give w) (one c _ q (give w)),
+    ap (λ r. r .log) (g (took ∷ [])) ∙ ap (λ l. r .log ++ l) (ap (λ r. r .log) (one c _ q took)) ∙ append-nil (r .log),
+  )
 
   answers-now : (n : Now) → Goes-on n → r .state ≡ now-state n → Answers P es (now-state n)
   answers-now (there c) g s = answers-there c (next c) g s refl
@@ -241,12 +244,13 @@ accepted-is : (P : Program) (es before : List Event) → accepted-after P before
 accepted-is P [] before = nothing-more (arrives (start P) before)
 accepted-is P (e ∷ es) before =
     (λ i. keep-if (accepts (meaning-state P before i) e) e
-        ((accepted-is P es (before ++ e ∷ []) ∙ ap (λ n. follow n es) (arrives-snoc before e (start P))) i) (accepted-is P es before i))
+    ((accepted-is P es (before ++ e ∷ []) ∙ ap (λ n. follow n es) (arrives-snoc before e (start P))) i) (accepted-is P es before i))
     ∙ now-keeps es (arrives (start P) before) e
 
 pub in-order : In-order
 in-order P es = record {
-    accepted-alone = sym (simulates P es) ∙ refused-runs es (start P) ∙ ap (run (start P)) (sym (accepted-is P es [])) ∙ simulates P (accepted-calls P es);
-    one-a-step = ap (λ r. actions (r .log)) (sym (simulates P es)) ∙ run-count es (start P) ∙ ap steps-in (sym (accepted-is P es []));
-    stays = λ fs. (from-now (arrives (start P) es) fs .log, ap (λ r. r .log) (meaning-splits P es fs));
-    answers = answers-all P es }
+  accepted-alone = sym (simulates P es) ∙ refused-runs es (start P) ∙ ap (run (start P)) (sym (accepted-is P es [])) ∙ simulates P (accepted-calls P es);
+  one-a-step = ap (λ r. actions (r .log)) (sym (simulates P es)) ∙ run-count es (start P) ∙ ap steps-in (sym (accepted-is P es []));
+  stays = λ fs. (from-now (arrives (start P) es) fs .log, ap (λ r. r .log) (meaning-splits P es fs));
+  answers = answers-all P es;
+}

@@ -94,11 +94,11 @@ perform (to-test at s xs) h = do
   choose (truth (the-value (top h))) (exec (formals h) (pop h .depth) s) (arms (formals h) (pop h .depth) xs)
   return (pop h)
 perform (to-while at q e s) h = λ k. act q (pop h .depth) (a-test (the-value (top h)))
-  (λ _. choose (truth (the-value (top h))) (exec (formals h) (pop h .depth) s >> (λ _. exec (formals h) (closes (pop h) .depth) (while at q e s) (λ _. k (closes (pop h))))) (return (tt {0})) (λ _. k (closes (pop h))))
+    (λ _. choose (truth (the-value (top h))) (exec (formals h) (pop h .depth) s >> (λ _. exec (formals h) (closes (pop h) .depth) (while at q e s) (λ _. k (closes (pop h))))) (return (tt {0})) (λ _. k (closes (pop h))))
 perform (to-until at s q e) h = λ k. act q (pop h .depth) (a-test (the-value (top h)))
-  (λ _. choose (truth (the-value (top h))) (return (tt {0})) (λ _. exec (formals h) (closes (pop h) .depth) (repeat at s q e) (λ _. k (closes (pop h)))) (λ _. k (closes (pop h))))
+    (λ _. choose (truth (the-value (top h))) (return (tt {0})) (λ _. exec (formals h) (closes (pop h) .depth) (repeat at s q e) (λ _. k (closes (pop h)))) (λ _. k (closes (pop h))))
 perform (to-exit at s b l) h = λ k. act at (pop h .depth) (a-test (the-value (top h)))
-  (λ _. choose (truth (the-value (top h))) (exec (formals h) (pop h .depth) s) (turn (formals h) (pop h .depth) b (λ _. exec (formals h) (closes (pop h) .depth) l (λ _. k (closes (pop h))))) (λ _. k (closes (pop h))))
+    (λ _. choose (truth (the-value (top h))) (exec (formals h) (pop h .depth) s) (turn (formals h) (pop h .depth) b (λ _. exec (formals h) (closes (pop h) .depth) l (λ _. k (closes (pop h))))) (λ _. k (closes (pop h))))
 perform to-close h = return (closes h)
 perform (to-apply at p n) h = do
   v ← applied p (pops n h .depth) at (take n (h .waiting))
@@ -164,7 +164,7 @@ passing : (P : ℕ → List Item → Held → Behaviour) (xs : Actuals) (h : Hel
 passing P xs h = actuals-count (formals h) xs (h .depth) [] _ _ λ js l.
     let e : length js ≡ how-many xs = omega arith in
     subst (λ n. P (h .depth) js h ≡ P (pops n (push-all js h) .depth) (take n (push-all js h .waiting)) (pops n (push-all js h))) e
-      (λ z. P (sym (pops-all js h) z .depth) (sym (takes-all js h) z) (sym (pops-all js h) z))
+    (λ z. P (sym (pops-all js h) z .depth) (sym (takes-all js h) z) (sym (pops-all js h) z))
 
 apply-next : (p : Function) (at : At) (n : ℕ) (k : List Task) (h : Held) → perform (to-apply at p n) h (resume k) ≡ behaves (next-apply p at n k h)
 apply-next (function m fs r t vs body) at n k h = refl

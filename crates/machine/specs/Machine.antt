@@ -142,12 +142,12 @@ next-select o r h = r (push (ref (the-cell (top h) + o) (the-way (top h))) (pop 
 abbrev pub next-apply : Function → At → ℕ → List Task → Held → Next
 next-apply (function m fs r t vs body) at n k h =
     acts (moved at m) (suc (pops n h .depth)) (an-entry (at .inside) (last-first fs) (r ∷ vs) (take n (h .waiting)))
-      (λ _. then (to-exec body ∷ to-leave-with (moved at m) (r .cell) t ∷ k) (enters (take n (h .waiting)) (pops n h)))
+    (λ _. then (to-exec body ∷ to-leave-with (moved at m) (r .cell) t ∷ k) (enters (take n (h .waiting)) (pops n h)))
 
 abbrev pub next-call : Procedure → At → ℕ → List Task → Held → Next
 next-call (procedure m fs vs body) at n k h =
     acts (moved at m) (suc (pops n h .depth)) (an-entry (at .inside) (last-first fs) vs (take n (h .waiting)))
-      (λ _. then (to-exec body ∷ to-leave (moved at m) ∷ k) (enters (take n (h .waiting)) (pops n h)))
+    (λ _. then (to-exec body ∷ to-leave (moved at m) ∷ k) (enters (take n (h .waiting)) (pops n h)))
 
 abbrev mutual
   pub next-eval : Expr → List Task → Held → Next
@@ -212,14 +212,14 @@ next-task (to-operate at o) k r h =
 next-task (to-decide at j e) k r h =
     let v = the-value (top h) in
     acts at (cond (needed j v) ((pop h) .depth) (suc ((pop h) .depth))) (a-decision j v)
-      (λ _. cond (needed j v) (then (to-eval e ∷ k) (pop h)) (then k (push (val v) (pop h))))
+    (λ _. cond (needed j v) (then (to-eval e ∷ k) (pop h)) (then k (push (val v) (pop h))))
 next-task (to-index taken at w low high s) k r h =
     acts at (cond taken ((pop (pop h)) .depth) ((pop h) .depth)) (an-index (the-cell (top (pop h))) w low high s (the-value (top h)))
-      (λ c. then k (push (ref (natAbs c) (the-way (top (pop h)))) (pop (pop h))))
+    (λ c. then k (push (ref (natAbs c) (the-way (top (pop h)))) (pop (pop h))))
 next-task (to-select o) k r h = next-select o r h
 next-task (to-store at) k r h =
     acts at ((pop (pop h)) .depth) (a-store (the-way (top (pop h))) (the-cell (top (pop h))) (the-value (top h)))
-      (λ _. then k (pop (pop h)))
+    (λ _. then k (pop (pop h)))
 next-task (to-write at a) k r h =
     let v = the-value (top h) in
     acts at ((closes (pop h)) .depth) (a-write a v) (λ _. then (to-deliver a v ∷ k) (closes (pop h)))
@@ -230,15 +230,15 @@ next-task (to-test at s xs) k r h =
 next-task (to-while at q e s) k r h =
     let v = the-value (top h) in
     acts q ((pop h) .depth) (a-test v)
-      (λ _. cond (truth v) (then (to-exec s ∷ to-close ∷ to-exec (while at q e s) ∷ k) (pop h)) (then k (closes (pop h))))
+    (λ _. cond (truth v) (then (to-exec s ∷ to-close ∷ to-exec (while at q e s) ∷ k) (pop h)) (then k (closes (pop h))))
 next-task (to-until at s q e) k r h =
     let v = the-value (top h) in
     acts q ((pop h) .depth) (a-test v)
-      (λ _. cond (truth v) (then k (closes (pop h))) (then (to-exec (repeat at s q e) ∷ k) (closes (pop h))))
+    (λ _. cond (truth v) (then k (closes (pop h))) (then (to-exec (repeat at s q e) ∷ k) (closes (pop h))))
 next-task (to-exit at s b l) k r h =
     let v = the-value (top h) in
     acts at ((pop h) .depth) (a-test v)
-      (λ _. cond (truth v) (then (to-exec s ∷ to-close ∷ k) (pop h)) (then (to-turn b l ∷ k) (pop h)))
+    (λ _. cond (truth v) (then (to-exec s ∷ to-close ∷ k) (pop h)) (then (to-turn b l ∷ k) (pop h)))
 next-task to-close k r h = r (closes h)
 next-task (to-apply at p n) k r h = next-apply p at n k h
 next-task (to-call at p n) k r h = next-call p at n k h

@@ -54,16 +54,18 @@ only-none : (P : Program) (X : ℕ → Type 0) (σ : Cells) → Only P X σ σ
 only-none P X σ = (λ d. inr refl, refl, refl)
 
 only-then : (P : Program) (X : ℕ → Type 0) (σ τ ρ : Cells) → Only P X σ τ → Only P X τ ρ → Only P X σ ρ
-only-then P X σ τ ρ h g =
-    ( λ d. elim (g .0 d) [ inl x ↦ inl x | inr e ↦ elim (h .0 d) [ inl x ↦ inl x | inr q ↦ inr (e ∙ q) ] ]
-    , g .1 ∙ h .1
-    , g .2 ∙ h .2)
+only-then P X σ τ ρ h g = (
+  λ d. elim (g .0 d) [ inl x ↦ inl x | inr e ↦ elim (h .0 d) [ inl x ↦ inl x | inr q ↦ inr (e ∙ q) ] ],
+  g .1 ∙ h .1,
+  g .2 ∙ h .2,
+)
 
 only-set : (P : Program) (X : ℕ → Type 0) (σ : Cells) (c : ℕ) (v : ℤ) → X c → (x : Cell) → Cell-at P c x → Only P X σ (set σ c v)
-only-set P X σ c v w x e =
-    ( λ d. elim (set-is σ c v d) [ inl q ↦ inl (subst X (sym (q .0)) w) | inr q ↦ inr q ]
-    , length-set σ c v
-    , drop-set-lt (length (table P)) σ c v (elem-below (table P) c x e))
+only-set P X σ c v w x e = (
+  λ d. elim (set-is σ c v d) [ inl q ↦ inl (subst X (sym (q .0)) w) | inr q ↦ inr q ],
+  length-set σ c v,
+  drop-set-lt (length (table P)) σ c v (elem-below (table P) c x e),
+)
 
 module _ (P : Program) (dealt : Dealt 0 (P .variables)) where
   owned-mine : (m c : ℕ) (x : Variable) (t : Simple) → x .inside ≡ m → Cell-at P c (cell (x .inside) t) → Mine P m c
@@ -76,13 +78,13 @@ module _ (P : Program) (dealt : Dealt 0 (P .variables)) where
       let f = dealt-cells P dealt x (w .0) k (omega arith) in
       let h = subst (λ c. Cell-at P c (cell (x .inside) (f .0))) (sym e) (f .1) in
       only-then P (Mine P m) σ (cleared (suc c) n σ) _ (cleared-only m x w (suc k) n (omega arith) (suc c) (omega arith) σ)
-        (only-set P (Mine P m) (cleared (suc c) n σ) c (pos 0) (owned-mine m c x (f .0) (w .1) h) _ h)
+      (only-set P (Mine P m) (cleared (suc c) n σ) c (pos 0) (owned-mine m c x (f .0) (w .1) h) _ h)
 
   zeroed-only : (m : ℕ) (xs : List Variable) → All-owned P m xs → (σ : Cells) → Only P (Mine P m) σ (zeroed xs σ)
   zeroed-only m [] w σ = only-none P (Mine P m) σ
   zeroed-only m (x ∷ xs) w σ =
       only-then P (Mine P m) σ (zeroed xs σ) _ (zeroed-only m xs (w .1) σ)
-        (cleared-only m x (w .0) 0 (size (x .shape)) (omega arith) (x .cell) (omega arith) (zeroed xs σ))
+      (cleared-only m x (w .0) 0 (size (x .shape)) (omega arith) (x .cell) (omega arith) (zeroed xs σ))
 
   placed-only : (m : ℕ) (fs : List Formal) (is : List Item) → Formals-owned P m fs → (σ : Cells) → Only P (Mine P m) σ (placed fs is σ)
   placed-only m [] is w σ = only-none P (Mine P m) σ
@@ -90,7 +92,7 @@ module _ (P : Program) (dealt : Dealt 0 (P .variables)) where
   placed-only m (by-const x t ∷ fs) (val v ∷ is) w σ =
       let i = simple-is P dealt m x t (w .0) in
       only-then P (Mine P m) σ (placed fs is σ) _ (placed-only m fs is (w .1) σ)
-        (only-set P (Mine P m) (placed fs is σ) (x .cell) v (formal-mine m x t (w .0)) _ (i .1))
+      (only-set P (Mine P m) (placed fs is σ) (x .cell) v (formal-mine m x t (w .0)) _ (i .1))
     where
       formal-mine : (m : ℕ) (x : Variable) (t : Simple) → Owned-simple P m x t → Mine P m (x .cell)
       formal-mine m x t h =
@@ -126,7 +128,7 @@ module _ (P : Program) (dealt : Dealt 0 (P .variables)) where
   written-only o m (a-write a v) l σ = only-none P _ σ
   written-only o m (an-entry n fs zs is) l σ =
       only-weaker (Mine P m) _ σ _ (λ c h. inl h)
-        (only-then P (Mine P m) σ (zeroed zs σ) _ (zeroed-only m zs (l .2) σ) (placed-only m fs is (l .1) (zeroed zs σ)))
+      (only-then P (Mine P m) σ (zeroed zs σ) _ (zeroed-only m zs (l .2) σ) (placed-only m fs is (l .1) (zeroed zs σ)))
   written-only o m a-leave l σ = only-none P _ σ
   written-only o m (a-leave-with r t) l σ = only-none P _ σ
 
@@ -141,7 +143,8 @@ module _ (P : Program) (dealt : Dealt 0 (P .variables)) where
         changes = λ c n. elim (w .0 c) [ inl x ↦ x | inr e ↦ absurd (n e) ];
         count = w .1;
         beyond = w .2;
-        opens = λ base u low high s v e. subst (law P o (at .inside)) e l }
+        opens = λ base u low high s v e. subst (law P o (at .inside)) e l;
+      }
 
   hides : (o : List Open) (l : List Line) → Lawful P o l → Hides P o l
   hides o [] g = tt

@@ -221,7 +221,7 @@ module _ (P : Program) where
         → Place o who (way (whole n)) s (cell-of ls n)
     name-place o f ls st who (own x) s h =
         subst (λ s. Place o who direct s (x .cell)) (h .1)
-          (each-map _ _ (x .cell) (x .shape) (λ c t q e. ((x .inside, e), own-named o who x c t (h .2) e)) (dealt-each P dealt x (h .0)))
+        (each-map _ _ (x .cell) (x .shape) (λ c t q e. ((x .inside, e), own-named o who x c t (h .2) e)) (dealt-each P dealt x (h .0)))
     name-place o f ls st who (formal n) s h = each-map _ _ (getD ls n 0) s (λ c t q p. (p .0, onward-named o who c (p .1))) (st n s h)
 
     -- the result of a function, and its cell
@@ -236,18 +236,18 @@ module _ (P : Program) where
           act-good o at _ _ k tt λ σ w e. g w (subst (Fits t) (ok-inj (outcome-ok _ _ σ w e .0)) h)
       eval-safe o f ls st d (value at u x) t h k g =
           locate-safe true o f ls st d none x (simple t) (h .1) _ λ c p. act-good o at _ _ k (subst (Is c) (sym (h .0)) (p .0)) λ σ v e.
-            let r = outcome-ok _ _ σ v e in g v (subst (Fits t) (ok-inj (r .0)) (as-type (getD σ c (pos 0)) (sym (h .0)) (r .1)))
+          let r = outcome-ok _ _ σ v e in g v (subst (Fits t) (ok-inj (r .0)) (as-type (getD σ c (pos 0)) (sym (h .0)) (r .1)))
       eval-safe o f ls st d (register at u a) t h k g =
           act-good o at _ _ _ tt λ _ _ _. await-good o a u k λ v p. g v (as-type v (sym (h .0)) p)
       eval-safe o f ls st d (unary at s e) t h k g =
           eval-safe o f ls st d e t (h .1) _ λ v fv. act-good o at _ _ k (t, h .0, fv) λ σ w q.
-            g w (sign-fits s t v w (h .0) fv (outcome-ok _ _ σ w q .0))
+          g w (sign-fits s t v w (h .0) fv (outcome-ok _ _ σ w q .0))
       eval-safe o f ls st d (binary at p u a b) t h k g =
           eval-safe o f ls st d a u (h .1) _ λ x fx. eval-safe o f ls st (suc d) b u (h .2) _ λ y fy.
-            act-good o at _ _ k (u, t, h .0, fx, fy) λ σ v e. g v (operator-fits p u t x y v (h .0) fx fy (outcome-ok _ _ σ v e .0))
+          act-good o at _ _ k (u, t, h .0, fx, fy) λ σ v e. g v (operator-fits p u t x y v (h .0) fx fy (outcome-ok _ _ σ v e .0))
       eval-safe o f ls st d (junction at j a b) t h k g =
           eval-safe o f ls st d a boolean (h .1) _ λ x fx. act-good o at _ _ _ tt λ _ _ _.
-            choose-good o (needed j x) _ _ k (eval-safe o f ls st d b boolean (h .2) k (λ v fv. g v (as-type v (h .0) fv))) (g x (as-type x (h .0) fx))
+          choose-good o (needed j x) _ _ k (eval-safe o f ls st d b boolean (h .2) k (λ v fv. g v (as-type v (h .0) fv))) (g x (as-type x (h .0) fx))
       eval-safe o f ls st d (apply at p xs) t h k g =
           actuals-safe o f ls st d (at .inside) xs [] (function-formals p) [] tt (h .1) _ λ is q. applied-safe o p d at is t (h .0) q k g
 
@@ -256,9 +256,9 @@ module _ (P : Program) where
       locate-safe taken o f ls st d who (whole n) s h k g = g _ (name-place o f ls st who n s h)
       locate-safe taken o f ls st d who (element at x w low high u e) s h k g =
           locate-safe false o f ls st d who x (array w low high s) (h .2) _ λ base p. eval-safe o f ls st (suc d) e integer (h .3) _ λ v _.
-            act-good o at _ _ _ (h .1) λ σ c q.
-              let r = index-ok base low high u v c (outcome-ok _ _ σ c q .0) in
-              g (natAbs c) (subst (Place o who (way x) s) (ap natAbs (r .1)) (subst (λ u. Place o who (way x) s (element-cell base low u v)) (sym (h .0)) (p v (r .0))))
+          act-good o at _ _ _ (h .1) λ σ c q.
+          let r = index-ok base low high u v c (outcome-ok _ _ σ c q .0) in
+          g (natAbs c) (subst (Place o who (way x) s) (ap natAbs (r .1)) (subst (λ u. Place o who (way x) s (element-cell base low u v)) (sym (h .0)) (p v (r .0))))
       locate-safe taken o f ls st d who (part at x w fs n) s h k g =
           locate-safe taken o f ls st d who x (record-of w fs) (h .1) _ λ base p. g _ (field-each _ base fs n s (h .2) p)
 
@@ -282,16 +282,16 @@ module _ (P : Program) where
       exec-safe o f ls st d (seq a b) h k g = exec-safe o f ls st d a (h .0) _ λ _ _. exec-safe o f ls st d b (h .1) k g
       exec-safe o f ls st d (assign at t x e) h k g =
           locate-safe false o f ls st d (some (at .inside)) x (simple t) (h .0) _ λ c p. eval-safe o f ls st (suc d) e t (h .1) _ λ v fv.
-            act-good o at _ _ _ (t, p .0, fv, p .1) λ _ _ _. g tt tt
+          act-good o at _ _ _ (t, p .0, fv, p .1) λ _ _ _. g tt tt
       exec-safe o f ls st d (offer at t a e) h k g =
           eval-safe o f ls st (suc d) e t (h .1) _ λ v fv. act-good o at _ _ _ tt λ _ _ _. deliver-good o a v k g
       exec-safe o f ls st d (if xs) h k g = arms-safe o f ls st (suc d) xs h k g
       exec-safe o f ls st d (while at q e s) h k g =
           again-good o _ k λ X gX. act-good o at _ _ _ tt λ _ _ _. eval-safe o f ls st (suc d) e boolean (h .0) _ λ v fv.
-            act-good o q _ _ _ tt λ _ _ _. choose-good o (truth v) _ _ k (exec-safe o f ls st (suc d) s (h .1) _ λ _ _. gX) (g tt tt)
+          act-good o q _ _ _ tt λ _ _ _. choose-good o (truth v) _ _ k (exec-safe o f ls st (suc d) s (h .1) _ λ _ _. gX) (g tt tt)
       exec-safe o f ls st d (repeat at s q e) h k g =
           again-good o _ k λ X gX. act-good o at _ _ _ tt λ _ _ _. exec-safe o f ls st (suc d) s (h .0) _ λ _ _.
-            eval-safe o f ls st (suc d) e boolean (h .1) _ λ v fv. act-good o q _ _ _ tt λ _ _ _. choose-good o (truth v) _ _ k (g tt tt) gX
+          eval-safe o f ls st (suc d) e boolean (h .1) _ λ v fv. act-good o q _ _ _ tt λ _ _ _. choose-good o (truth v) _ _ k (g tt tt) gX
       exec-safe o f ls st d (loop at b) h k g =
           again-good o _ k λ X gX. act-good o at _ _ _ tt λ _ _ _. turn-safe o f ls st (suc d) b h X gX k g
       exec-safe o f ls st d (call at p xs) h k g =
@@ -302,28 +302,28 @@ module _ (P : Program) where
       arms-safe o f ls st d (otherwise s) h k g = exec-safe o f ls st d s h k g
       arms-safe o f ls st d (arm at e s xs) h k g =
           eval-safe o f ls st d e boolean (h .0) _ λ v fv. act-good o at _ _ _ tt λ _ _ _.
-            choose-good o (truth v) _ _ k (exec-safe o f ls st d s (h .1) k g) (arms-safe o f ls st d xs (h .2) k g)
+          choose-good o (truth v) _ _ k (exec-safe o f ls st d s (h .1) k g) (arms-safe o f ls st d xs (h .2) k g)
 
       turn-safe : (o : List Open) (f : List Shape) (ls : List ℕ) → Stands o f ls
           → (d : ℕ) (b : Parts) → ok-parts P f b → (X : Behaviour) → Good o X → Safe o (λ _. Unit {0}) (turn ls d b (λ _. X))
       turn-safe o f ls st d (ends s) h X gX k g = exec-safe o f ls st d s h _ λ _ _. gX
       turn-safe o f ls st d (exits s at e s′ b) h X gX k g =
           exec-safe o f ls st d s (h .0) _ λ _ _. eval-safe o f ls st d e boolean (h .1) _ λ v fv. act-good o at _ _ _ tt λ _ _ _.
-            choose-good o (truth v) _ _ k (exec-safe o f ls st d s′ (h .2) k g) (turn-safe o f ls st d b (h .3) X gX k g)
+          choose-good o (truth v) _ _ k (exec-safe o f ls st d s′ (h .2) k g) (turn-safe o f ls st d b (h .3) X gX k g)
 
       applied-safe : (o : List Open) (p : Function) (d : ℕ) (at : At) (is : List Item) (t : Simple)
           → ok-function P p t → Match o (at .inside) is (last-first (function-formals p)) → Safe o (Fits t) (applied p d at is)
       applied-safe o (function m fs r u vs body) d at is t h q k g =
           act-good o _ _ _ _ (q, formals-turned P m fs [] (h .1) tt, ((h .2 .0, h .2 .1), h .3)) λ _ _ _.
-            exec-safe (opened o (an-entry (at .inside) (last-first fs) (r ∷ vs) is)) (var-shapes (last-first fs)) (lent is)
-              (match-lends o (at .inside) is (last-first fs) q) (suc d) body (h .4) _ λ _ _.
-            act-good (opened o (an-entry (at .inside) (last-first fs) (r ∷ vs) is)) _ _ _ k (simple-is m r u (h .2)) λ σ v e.
-              let w = outcome-ok _ _ σ v e in g v (as-type v (sym (h .0)) (subst (Fits u) (ok-inj (w .0)) (w .1)))
+          exec-safe (opened o (an-entry (at .inside) (last-first fs) (r ∷ vs) is)) (var-shapes (last-first fs)) (lent is)
+          (match-lends o (at .inside) is (last-first fs) q) (suc d) body (h .4) _ λ _ _.
+          act-good (opened o (an-entry (at .inside) (last-first fs) (r ∷ vs) is)) _ _ _ k (simple-is m r u (h .2)) λ σ v e.
+          let w = outcome-ok _ _ σ v e in g v (as-type v (sym (h .0)) (subst (Fits u) (ok-inj (w .0)) (w .1)))
 
       called-safe : (o : List Open) (p : Procedure) (d : ℕ) (at : At) (is : List Item)
           → ok-procedure P p → Match o (at .inside) is (last-first (formals-of p)) → Safe o (λ _. Unit {0}) (called p d at is)
       called-safe o (procedure m fs vs body) d at is h q k g =
           act-good o _ _ _ _ (q, formals-turned P m fs [] (h .0) tt, h .1) λ _ _ _.
-            exec-safe (opened o (an-entry (at .inside) (last-first fs) vs is)) (var-shapes (last-first fs)) (lent is)
-              (match-lends o (at .inside) is (last-first fs) q) (suc d) body (h .2) _ λ _ _.
-            act-good (opened o (an-entry (at .inside) (last-first fs) vs is)) _ _ _ _ tt λ _ _ _. g tt tt
+          exec-safe (opened o (an-entry (at .inside) (last-first fs) vs is)) (var-shapes (last-first fs)) (lent is)
+          (match-lends o (at .inside) is (last-first fs) q) (suc d) body (h .2) _ λ _ _.
+          act-good (opened o (an-entry (at .inside) (last-first fs) vs is)) _ _ _ _ tt λ _ _ _. g tt tt

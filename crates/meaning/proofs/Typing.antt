@@ -53,8 +53,9 @@ module _ (P : Program) where
   set-typed : (σ : Cells) (c : ℕ) (v : ℤ) → Typed P σ → ((x : Cell) → Cell-at P c x → T (fits (x .type) v)) → Typed P (set σ c v)
   set-typed σ c v h f d x e =
       elim (set-is σ c v d) [
-        inl q ↦ subst (λ w. T (fits (x .type) w)) (sym (q .1)) (f x (subst (λ d. Cell-at P d x) (q .0) e))
-      | inr q ↦ subst (λ w. T (fits (x .type) w)) (sym q) (h d x e) ]
+        | inl q ↦ subst (λ w. T (fits (x .type) w)) (sym (q .1)) (f x (subst (λ d. Cell-at P d x) (q .0) e))
+        | inr q ↦ subst (λ w. T (fits (x .type) w)) (sym q) (h d x e)
+      ]
 
   -- a value of the type of a cell fits whatever is said of that cell
   fits-cell : (c : ℕ) (t : Simple) (v : ℤ) → Is P c t → Fits t v → (x : Cell) → Cell-at P c x → T (fits (x .type) v)
@@ -194,15 +195,17 @@ traps-exactly P o m a l d σ h =
     record {
       caused = c;
       traps = λ t p. cause-traps t d a p σ (λ u e. cause-number u d a (n u e));
-      never-foreign = λ e. let p = cause-number Foreign d a (c Foreign e) in omega arith }
+      never-foreign = λ e. let p = cause-number Foreign d a (c Foreign e) in omega arith;
+    }
 
 stays-typed : (P : Program) → Dealt 0 (P .variables) → (o : List Open) (l : List Line) → Lawful P o l
     → (σ : Cells) → Typed P σ → Undisturbed σ l → Stays-typed P σ l
 stays-typed P w o [] g σ h u = h
-stays-typed P w o (did at d a ρ r ∷ l) g σ h u =
-    (h
-    , subst (Traps-exactly d a) (sym (g .0)) (traps-exactly P o (at .inside) a (g .1) d ρ (subst (Typed P) (sym (u .0)) h))
-    , stays-typed P w (opened o a) l (g .2) (left a r σ) (left-typed P w o (at .inside) a (g .1) r σ h) (u .1))
+stays-typed P w o (did at d a ρ r ∷ l) g σ h u = (
+  h,
+  subst (Traps-exactly d a) (sym (g .0)) (traps-exactly P o (at .inside) a (g .1) d ρ (subst (Typed P) (sym (u .0)) h)),
+  stays-typed P w (opened o a) l (g .2) (left a r σ) (left-typed P w o (at .inside) a (g .1) r σ h) (u .1),
+)
 stays-typed P w o (was-given a t v ∷ l) g σ h u = stays-typed P w o l g σ h u
 
 -- the whole of a well-formed program is lawful
@@ -220,9 +223,9 @@ started-typed P σ c x e =
     let l = elem-below (table P) c x e in
     let n : length (replicate (length (table P)) (pos 0)) ≡ length (table P) = length-replicate (length (table P)) (pos 0) in
     subst (λ v. T (fits (x .type) v))
-      (sym (List·getD-append (replicate (length (table P)) (pos 0)) (drop (length (table P)) σ) (pos 0) c (omega arith)
-        ∙ getD-replicate (length (table P)) c (pos 0) (pos 0) l))
-      (zero-fits (x .type))
+    (sym (List·getD-append (replicate (length (table P)) (pos 0)) (drop (length (table P)) σ) (pos 0) c (omega arith)
+    ∙ getD-replicate (length (table P)) c (pos 0) (pos 0) l))
+    (zero-fits (x .type))
 
 pub types-kept : Types-kept
 types-kept P w es σ u = stays-typed P (w .1) [] (meaning P es .log) (lawful P w es) (started P σ) (started-typed P σ) u

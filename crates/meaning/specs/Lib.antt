@@ -4,3 +4,5 @@ pub mod Meaning
 pub mod Typing
 pub mod Hiding
 pub mod Order
+pub mod Running
+pub mod Examples

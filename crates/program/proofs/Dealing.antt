@@ -93,14 +93,15 @@ module _ {A : Type 0} (a : Simple → A) where
         let k = natAbs (v -ℤ low) in
         let e : b + k * length (flat a s) ≡ element-cell b low s v = ap (λ n. b + k * n) (flat-length s) in
         each-dealt table (element-cell b low s v) s
-          (subst (λ c. Has table c (flat a s)) e (has-copy table b (suc (natAbs (high -ℤ low))) (flat a s) h k (in-bounds low high v w)))
+        (subst (λ c. Has table c (flat a s)) e (has-copy table b (suc (natAbs (high -ℤ low))) (flat a s) h k (in-bounds low high v w)))
     each-dealt table b (record-of w fs) h = each-of-dealt table b fs h
 
     each-of-dealt : (table : List A) (b : ℕ) (fs : Fields) → Has table b (flats a fs) → Each-of (λ c t. getElem? table c ≡ some (a t)) b fs
     each-of-dealt table b no-field h = tt
-    each-of-dealt table b (field-and s fs) h =
-        (each-dealt table b s (has-left table b (flat a s) (flats a fs) h)
-        , each-of-dealt table (b + size s) fs (subst (λ n. Has table (b + n) (flats a fs)) (flat-length s) (has-right table b (flat a s) (flats a fs) h)))
+    each-of-dealt table b (field-and s fs) h = (
+      each-dealt table b s (has-left table b (flat a s) (flats a fs) h),
+      each-of-dealt table (b + size s) fs (subst (λ n. Has table (b + n) (flats a fs)) (flat-length s) (has-right table b (flat a s) (flats a fs) h)),
+    )
 
 -- a variable of the program has its cells in the table
 variable-has : (all : List Cell) (b : ℕ) (xs : List Variable) → Dealt b xs → Has all b (cells-of xs)
@@ -108,13 +109,13 @@ variable-has : (all : List Cell) (b : ℕ) (xs : List Variable) → Dealt b xs �
 variable-has all b [] d h x m = absurd m
 variable-has all b (y ∷ ys) d h x (inl e) =
     subst (λ x. Has all (x .cell) (flat (cell (x .inside)) (x .shape))) (sym e)
-      (subst (λ c. Has all c (flat (cell (y .inside)) (y .shape))) (sym (d .0))
-        (has-left all b (flat (cell (y .inside)) (y .shape)) (cells-of ys) h))
+    (subst (λ c. Has all c (flat (cell (y .inside)) (y .shape))) (sym (d .0))
+    (has-left all b (flat (cell (y .inside)) (y .shape)) (cells-of ys) h))
 variable-has all b (y ∷ ys) d h x (inr m) =
     variable-has all (b + size (y .shape)) ys (d .1)
-      (subst (λ n. Has all (b + n) (cells-of ys)) (flat-length (cell (y .inside)) (y .shape))
-        (has-right all b (flat (cell (y .inside)) (y .shape)) (cells-of ys) h))
-      x m
+    (subst (λ n. Has all (b + n) (cells-of ys)) (flat-length (cell (y .inside)) (y .shape))
+    (has-right all b (flat (cell (y .inside)) (y .shape)) (cells-of ys) h))
+    x m
 
 pub dealt-has : (P : Program) → Dealt 0 (P .variables) → (x : Variable) → Among x (P .variables)
     → Has (table P) (x .cell) (flat (cell (x .inside)) (x .shape))

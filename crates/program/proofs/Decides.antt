@@ -65,26 +65,30 @@ either-or false q (inl h) = absurd h
 either-or false q (inr h) = h
 
 two : (p q : Bool) {X Y : Type 0} → Decides p X → Decides q Y → Decides (p && q) (X × Y)
-two p q f g =
-    ( λ t. let w = and-both p q t in (f .0 (w .0), g .0 (w .1))
-    , λ x. both-and p q (f .1 (x .0)) (g .1 (x .1)))
+two p q f g = (
+  λ t. let w = and-both p q t in (f .0 (w .0), g .0 (w .1)),
+  λ x. both-and p q (f .1 (x .0)) (g .1 (x .1)),
+)
 
 three : (p q r : Bool) {X Y Z : Type 0} → Decides p X → Decides q Y → Decides r Z → Decides (p && (q && r)) (X × Y × Z)
-three p q r f g h =
-    ( λ t. let w = and-both p (q && r) t in let v = and-both q r (w .1) in (f .0 (w .0), g .0 (v .0), h .0 (v .1))
-    , λ x. both-and p (q && r) (f .1 (x .0)) (both-and q r (g .1 (x .1)) (h .1 (x .2))))
+three p q r f g h = (
+  λ t. let w = and-both p (q && r) t in let v = and-both q r (w .1) in (f .0 (w .0), g .0 (v .0), h .0 (v .1)),
+  λ x. both-and p (q && r) (f .1 (x .0)) (both-and q r (g .1 (x .1)) (h .1 (x .2))),
+)
 
 four : (p q r s : Bool) {X Y Z W : Type 0} → Decides p X → Decides q Y → Decides r Z → Decides s W
     → Decides (p && (q && (r && s))) (X × Y × Z × W)
-four p q r s f g h k =
-    ( λ t. let w = and-both p (q && (r && s)) t in let v = (three q r s g h k) .0 (w .1) in (f .0 (w .0), v .0, v .1, v .2)
-    , λ x. both-and p (q && (r && s)) (f .1 (x .0)) ((three q r s g h k) .1 (x .1, x .2, x .3)))
+four p q r s f g h k = (
+  λ t. let w = and-both p (q && (r && s)) t in let v = (three q r s g h k) .0 (w .1) in (f .0 (w .0), v .0, v .1, v .2),
+  λ x. both-and p (q && (r && s)) (f .1 (x .0)) ((three q r s g h k) .1 (x .1, x .2, x .3)),
+)
 
 five : (p q r s u : Bool) {X Y Z W V : Type 0} → Decides p X → Decides q Y → Decides r Z → Decides s W → Decides u V
     → Decides (p && (q && (r && (s && u)))) (X × Y × Z × W × V)
-five p q r s u f g h k l =
-    ( λ t. let w = and-both p (q && (r && (s && u))) t in let v = (four q r s u g h k l) .0 (w .1) in (f .0 (w .0), v .0, v .1, v .2, v .3)
-    , λ x. both-and p (q && (r && (s && u))) (f .1 (x .0)) ((four q r s u g h k l) .1 (x .1, x .2, x .3, x .4)))
+five p q r s u f g h k l = (
+  λ t. let w = and-both p (q && (r && (s && u))) t in let v = (four q r s u g h k l) .0 (w .1) in (f .0 (w .0), v .0, v .1, v .2, v .3),
+  λ x. both-and p (q && (r && (s && u))) (f .1 (x .0)) ((four q r s u g h k l) .1 (x .1, x .2, x .3, x .4)),
+)
 
 -- a test that is sound, and passes for what is the same
 by-same : {A : Type 0} (same : A → A → Bool) → ((x y : A) → T (same x y) → x ≡ y) → ((x : A) → T (same x x)) → (x y : A) → Decides (same x y) (x ≡ y)
@@ -191,7 +195,7 @@ text-itself (x ∷ xs) = both-and (eqb x x) _ (eqb-refl x) (text-itself xs)
 variable-sound : (x y : Variable) → T (same-variable x y) → x ≡ y
 variable-sound x y h =
     let w = (four (same-text (x .name) (y .name)) (same-shape (x .shape) (y .shape)) (eqb (x .cell) (y .cell)) (eqb (x .inside) (y .inside))
-          (by-same same-text text-sound text-itself _ _) (shape-is _ _) (number _ _) (number _ _)) .0 h in
+    (by-same same-text text-sound text-itself _ _) (shape-is _ _) (number _ _) (number _ _)) .0 h in
     λ i. record { name = w .0 i; shape = w .1 i; cell = w .2 i; inside = w .3 i }
 
 variable-itself : (x : Variable) → T (same-variable x x)
@@ -203,25 +207,29 @@ variable-is = by-same same-variable variable-sound variable-itself
 
 among-is : (x : Variable) (ys : List Variable) → Decides (among x ys) (Among x ys)
 among-is x [] = never
-among-is x (y ∷ ys) =
-    ( λ t. elim (or-either (same-variable x y) (among x ys) t) [ inl h ↦ inl ((variable-is x y) .0 h) | inr h ↦ inr ((among-is x ys) .0 h) ]
-    , λ m. either-or (same-variable x y) (among x ys) (elim m [ inl e ↦ inl ((variable-is x y) .1 e) | inr h ↦ inr ((among-is x ys) .1 h) ]))
+among-is x (y ∷ ys) = (
+  λ t. elim (or-either (same-variable x y) (among x ys) t) [ inl h ↦ inl ((variable-is x y) .0 h) | inr h ↦ inr ((among-is x ys) .0 h) ],
+  λ m. either-or (same-variable x y) (among x ys) (elim m [ inl e ↦ inl ((variable-is x y) .1 e) | inr h ↦ inr ((among-is x ys) .1 h) ]),
+)
 
 field-is : (fs : Fields) (o : ℕ) (s : Shape) → Decides (has-field fs o s) (Field fs o s)
 field-is no-field o s = never
-field-is (field-and u fs) o s =
-    ( λ t. elim (or-either (eqb o 0 && same-shape u s) (leb (size u) o && has-field fs (o - size u) s) t) [
-        inl h ↦ inl ((two (eqb o 0) (same-shape u s) (number o 0) (shape-is u s)) .0 h)
-      | inr h ↦
-          let w = and-both (leb (size u) o) (has-field fs (o - size u) s) h in
-          let l : size u ≤ o = leb→le (size u) o (w .0) in
-          inr (o - size u, (let e : o ≡ size u + (o - size u) = omega arith in e), (field-is fs (o - size u) s) .0 (w .1)) ]
-    , λ m. either-or (eqb o 0 && same-shape u s) (leb (size u) o && has-field fs (o - size u) s) (elim m [
-        inl h ↦ inl ((two (eqb o 0) (same-shape u s) (number o 0) (shape-is u s)) .1 h)
-      | inr h ↦
-          let e : h .0 ≡ o - size u = omega (arith, h .1) in
-          inr (both-and (leb (size u) o) (has-field fs (o - size u) s) (le→leb (size u) o (omega (arith, h .1)))
-            ((field-is fs (o - size u) s) .1 (subst (λ p. Field fs p s) e (h .2)))) ]))
+field-is (field-and u fs) o s = (
+  λ t. elim (or-either (eqb o 0 && same-shape u s) (leb (size u) o && has-field fs (o - size u) s) t) [
+    | inl h ↦ inl ((two (eqb o 0) (same-shape u s) (number o 0) (shape-is u s)) .0 h)
+    | inr h ↦
+        let w = and-both (leb (size u) o) (has-field fs (o - size u) s) h in
+        let l : size u ≤ o = leb→le (size u) o (w .0) in
+        inr (o - size u, (let e : o ≡ size u + (o - size u) = omega arith in e), (field-is fs (o - size u) s) .0 (w .1))
+  ],
+  λ m. either-or (eqb o 0 && same-shape u s) (leb (size u) o && has-field fs (o - size u) s) (elim m [
+    | inl h ↦ inl ((two (eqb o 0) (same-shape u s) (number o 0) (shape-is u s)) .1 h)
+    | inr h ↦
+        let e : h .0 ≡ o - size u = omega (arith, h .1) in
+        inr (both-and (leb (size u) o) (has-field fs (o - size u) s) (le→leb (size u) o (omega (arith, h .1)))
+        ((field-is fs (o - size u) s) .1 (subst (λ p. Field fs p s) e (h .2))))
+  ]),
+)
 
 sign-is : (g : Sign) (t : Simple) → Decides (sign-ok g t) (ok-sign g t)
 sign-is plus-sign t = simple-is t integer
@@ -291,10 +299,10 @@ module _ (P : Program) where
     designator-is f who (whole n) s = name-is f who n s
     designator-is f who (element at x w low high u e) s =
         four (same-shape u s) (open-here P at w) (designator-ok P f who x (array w low high s)) (expr-ok P f e integer)
-          (shape-is u s) (itself (open-here P at w)) (designator-is f who x (array w low high s)) (expr-is f e integer)
+        (shape-is u s) (itself (open-here P at w)) (designator-is f who x (array w low high s)) (expr-is f e integer)
     designator-is f who (part at x w fs o) s =
         three (open-here P at w) (designator-ok P f who x (record-of w fs)) (has-field fs o s)
-          (itself (open-here P at w)) (designator-is f who x (record-of w fs)) (field-is fs o s)
+        (itself (open-here P at w)) (designator-is f who x (record-of w fs)) (field-is fs o s)
 
     actuals-is : (f : List Shape) (m : ℕ) (xs : Actuals) (gs : List Formal) → Decides (actuals-ok P f m xs gs) (ok-actuals P f m xs gs)
     actuals-is f m no-more [] = always
@@ -332,12 +340,12 @@ module _ (P : Program) where
     procedure-is : (p : Procedure) → Decides (procedure-ok P p) (ok-procedure P p)
     procedure-is (procedure m fs vs body) =
         three (formals-owned P m fs) (all-owned P m vs) (stmt-ok P (var-shapes (last-first fs)) body)
-          (formals-owned-is m fs) (all-owned-is m vs) (stmt-is (var-shapes (last-first fs)) body)
+        (formals-owned-is m fs) (all-owned-is m vs) (stmt-is (var-shapes (last-first fs)) body)
 
     function-is : (p : Function) (t : Simple) → Decides (function-ok P p t) (ok-function P p t)
     function-is (function m fs r u vs body) t =
         five (same-simple u t) (formals-owned P m fs) (owned-simple P m r u) (all-owned P m vs) (stmt-ok P (var-shapes (last-first fs)) body)
-          (simple-is u t) (formals-owned-is m fs) (owned-simple-is m r u) (all-owned-is m vs) (stmt-is (var-shapes (last-first fs)) body)
+        (simple-is u t) (formals-owned-is m fs) (owned-simple-is m r u) (all-owned-is m vs) (stmt-is (var-shapes (last-first fs)) body)
 
   bodies-is : (ss : List Stmt) → Decides (bodies-ok P ss) (ok-bodies P ss)
   bodies-is [] = always
@@ -359,5 +367,5 @@ pub decided : Decided
 unfolding well-formed
 decided P =
     let d = three (nested 0 (P .modules)) (dealt 0 (P .variables)) (bodies-ok P (P .bodies))
-          (nested-is 0 (P .modules)) (dealt-is 0 (P .variables)) (bodies-is P (P .bodies)) in
+    (nested-is 0 (P .modules)) (dealt-is 0 (P .variables)) (bodies-is P (P .bodies)) in
     (λ e. d .0 (subst T (sym e) tt), λ w. is-true (well-formed P) (d .1 w))

@@ -1,0 +1,5 @@
+use Rattle.worked.proofs.Depths.{worked}
+use Rattle.worked.proofs.depths_compute.Needs as need
+
+pub returns : need.returns
+returns c = worked
