@@ -1,31 +1,33 @@
 // The step machine, as definitions of specs/; each function stands for a theorem on it, which is its contract.
+ghost use mathlib.Core.Path.{_≡_};
+ghost use mathlib.Core.Bool.{true};
 ghost use Rattle.machine.specs.Theorems.{Simulates, Moves-find, Stays-low};
 ghost use Rattle.meaning.specs.Order.{In-order};
 
 // The machine does exactly the actions of the meaning, on every sequence of calls.
-pub fn machine_simulates() -> u8
-    ensures { λ _. ⌜ Simulates ⌝ }
+pub fn machine_simulates() -> bool
+    ensures { λ r. ⌜ (r ≡ true) × Simulates ⌝ }
 {
-    0
+    true
 }
 
 // What is done follows from the program and the accepted calls alone, one action a step, and the state tells what is left.
-pub fn in_order() -> u8
-    ensures { λ _. ⌜ In-order ⌝ }
+pub fn in_order() -> bool
+    ensures { λ r. ⌜ (r ≡ true) × In-order ⌝ }
 {
-    0
+    true
 }
 
 // The loop that looks at the first task finds the next action, and ends.
-pub fn moves_find() -> u8
-    ensures { λ _. ⌜ Moves-find ⌝ }
+pub fn moves_find() -> bool
+    ensures { λ r. ⌜ (r ≡ true) × Moves-find ⌝ }
 {
-    0
+    true
 }
 
 // The list of tasks is never higher than what was reckoned from the program.
-pub fn stays_low() -> u8
-    ensures { λ _. ⌜ Stays-low ⌝ }
+pub fn stays_low() -> bool
+    ensures { λ r. ⌜ (r ≡ true) × Stays-low ⌝ }
 {
-    0
+    true
 }

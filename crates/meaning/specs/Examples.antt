@@ -32,7 +32,9 @@ use Rattle.meaning.specs.Actions.State.{ready, finished, trapped, awaiting, of
 use Rattle.meaning.specs.Running.{tells, line-of, at, variable, writing}
 use Rattle.meaning.specs.Running.Kind.{take, index, op, test, store, entry, leave, turn}
 use Rattle.meaning.specs.Running.Beside.{nobody, somebody}
-use Rattle.meaning.specs.Actions.{operated}
+use Rattle.meaning.specs.Actions.{operated, outcome, left}
+use Rattle.meaning.specs.Actions.Action.{a-take, an-index, a-store}
+use Rattle.meaning.specs.Actions.Way.{direct}
 
 -- The two-module yard, whose export hides its own `first`:
 --     module yard;
@@ -224,6 +226,27 @@ part-onward = record {
       (own part-onward-a)) no-more)) ∷ [];
 }
 
+-- module m; procedure p(n: integer); var a: integer; begin a := a + n end p; begin p(2); p(3) end m.
+abbrev entry-clears-n : Variable
+entry-clears-n = variable (codes "n") (simple integer) 0 0
+
+abbrev entry-clears-a : Variable
+entry-clears-a = variable (codes "a") (simple integer) 1 0
+
+abbrev entry-clears-p-called : Procedure
+entry-clears-p-called = procedure 0 (by-const entry-clears-n integer ∷ []) (entry-clears-a ∷ []) (assign (at 57 0) integer (whole (own
+    entry-clears-a)) (binary (at 62 0) plus integer (value (at 62 0) integer (whole (own entry-clears-a))) (value (at 66 0) integer (whole
+    (own entry-clears-n)))))
+
+abbrev pub entry-clears : Program
+entry-clears = record {
+  modules = 0 ∷ [];
+  variables = entry-clears-n ∷ entry-clears-a ∷ [];
+  bodies = (seq (call (at 81 0)
+      entry-clears-p-called (a-value (constant (at 83 0) (pos 2)) no-more)) (call (at 87 0) entry-clears-p-called (a-value (constant (at 89 0)
+      (pos 3)) no-more))) ∷ [];
+}
+
 -- The depth: f has 199 var formals and a const one, and x := f(x, .., x, f(x, .., x, 0C)) has 1 target, 398 variables and a value waiting, which
 -- is 400. The same between `repeat` and `until true` is one deeper, and traps where the value is taken.
 abbrev lend : ℕ → Designator → Actuals → Actuals
@@ -264,7 +287,7 @@ depth-400 = deep-program (deep-call 1170 1175 1774 2373)
 abbrev pub depth-401 : Program
 depth-401 = deep-program (repeat (at 1170 0) (deep-call 1177 1182 1781 2380) (at 2391 0) (constant (at 2391 0) (pos 1)))
 
--- all of it; the table of divisions first
+-- all of it; the table of divisions and traps first
 pub record Worked : Type 0 where
   pub drops-the-fraction : operated over (negsuc 14) (pos 4) ≡ Ok (negsuc 2)
   pub rounds-down : operated div (negsuc 14) (pos 4) ≡ Ok (negsuc 3)
@@ -273,6 +296,10 @@ pub record Worked : Type 0 where
   pub remainder-below-1 : operated modulo (pos 15) (negsuc 3) ≡ Err Divisor
   pub divisor-0 : operated over (pos 1) (pos 0) ≡ Err Divisor
   pub one-too-large : operated plus (pos 2147483647) (pos 1) ≡ Err Beyond
+  pub deep-before-foreign : outcome 401 (a-take 0 boolean) (pos 7 ∷ []) ≡ Err Depth
+  pub index-before-deep : outcome 401 (an-index 0 (writing 0 0) (pos 0) (pos 1) (simple integer) (pos 2)) [] ≡ Err Index
+  pub foreign-cell : outcome 400 (a-take 0 boolean) (pos 7 ∷ []) ≡ Err Foreign
+  pub trapped-changes-nothing : left (a-store direct 0 (pos 1)) (Err Depth) (pos 0 ∷ []) ≡ pos 0 ∷ []
   pub one-too-small : operated minus (negsuc 2147483646) (pos 1) ≡ Err Beyond
   pub yard-runs : tells nobody 100 yard ≡ (
     (take, 186, 2) ∷ (store, 177, 0) ∷ (take, 193, 1) ∷ (entry, 189, 1) ∷ (take, 120, 3) ∷ (
@@ -346,6 +373,14 @@ pub record Worked : Type 0 where
     (pos 0) ∷ (pos 6) ∷ [],
   )
   pub part-onward-fits : well-formed part-onward ≡ true
+  pub entry-clears-runs : tells nobody 100 entry-clears ≡ (
+    (take, 83, 1) ∷ (entry, 81, 1) ∷ (take, 62, 3) ∷ (take, 66, 4) ∷ (op, 62, 3) ∷
+        (store, 57, 1) ∷ (leave, 81, 0) ∷ (take, 89, 1) ∷ (entry, 87, 1) ∷ (take, 62, 3) ∷ (take, 66, 4) ∷ (op, 62, 3) ∷ (store, 57, 1) ∷
+        (leave, 87, 0) ∷ [],
+    finished,
+    (pos 3) ∷ (pos 3) ∷ [],
+  )
+  pub entry-clears-fits : well-formed entry-clears ≡ true
   pub depth-400-runs : line-of (tells nobody 100 depth-400) ≡ (10, finished, pos 0 ∷ pos 0 ∷ pos 0 ∷ [])
   pub depth-400-fits : well-formed depth-400 ≡ true
   pub depth-401-runs : tells nobody 100 depth-401 ≡ (

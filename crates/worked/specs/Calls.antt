@@ -163,27 +163,6 @@ order-of-cells = record {
       (writing 0 0) (pos 0) (pos 1) (simple char) (constant (at 168 0) (pos 0))) (constant (at 174 0) (pos 2)))) ∷ [];
 }
 
--- module m; procedure p(n: integer); var a: integer; begin a := a + n end p; begin p(2); p(3) end m.
-abbrev entry-and-leave-n : Variable
-entry-and-leave-n = variable (codes "n") (simple integer) 0 0
-
-abbrev entry-and-leave-a : Variable
-entry-and-leave-a = variable (codes "a") (simple integer) 1 0
-
-abbrev entry-and-leave-p-called : Procedure
-entry-and-leave-p-called = procedure 0 (by-const entry-and-leave-n integer ∷ []) (entry-and-leave-a ∷ []) (assign (at 57 0) integer (whole
-    (own entry-and-leave-a)) (binary (at 62 0) plus integer (value (at 62 0) integer (whole (own entry-and-leave-a))) (value (at 66 0)
-    integer (whole (own entry-and-leave-n)))))
-
-abbrev pub entry-and-leave : Program
-entry-and-leave = record {
-  modules = 0 ∷ [];
-  variables = entry-and-leave-n ∷ entry-and-leave-a ∷ [];
-  bodies = (seq (call (at 81 0)
-      entry-and-leave-p-called (a-value (constant (at 83 0) (pos 2)) no-more)) (call (at 87 0) entry-and-leave-p-called (a-value (constant (at
-      89 0) (pos 3)) no-more))) ∷ [];
-}
-
 -- module m; procedure f(a, b: integer): integer; begin f := a * 10 + b end f; var x: integer; begin x := f(1, f(2, 3)) end m.
 abbrev call-in-actuals-a : Variable
 call-in-actuals-a = variable (codes "a") (simple integer) 0 0
@@ -290,17 +269,6 @@ pub record Calls-worked : Type 0 where
     (pos 9) ∷ (pos 9) ∷ (pos 1) ∷ (pos 9) ∷ (pos 0) ∷ (pos 2) ∷ (pos 0) ∷ [],
   )
   pub order-of-cells-fits : well-formed order-of-cells ≡ true
-  pub entry-and-leave-runs : tells nobody 100 entry-and-leave ≡ (
-    (take, 83, 1) ∷ (entry, 81, 1) ∷ (take, 62, 3) ∷ (take, 66, 4) ∷ (
-      op,
-      62,
-      3,
-    ) ∷ (store, 57, 1) ∷ (leave, 81, 0) ∷ (take, 89, 1) ∷ (entry, 87, 1) ∷ (take, 62, 3) ∷ (take, 66, 4) ∷ (op, 62, 3) ∷ (store, 57, 1) ∷
-        (leave, 87, 0) ∷ [],
-    finished,
-    (pos 3) ∷ (pos 3) ∷ [],
-  )
-  pub entry-and-leave-fits : well-formed entry-and-leave ≡ true
   pub call-in-actuals-runs : tells nobody 100 call-in-actuals ≡ (
     (take, 105, 2) ∷ (take, 110, 3) ∷ (take, 113, 4) ∷ (entry, 108, 3) ∷ (
       take,

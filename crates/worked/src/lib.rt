@@ -1,33 +1,35 @@
 // Worked examples of runs, as definitions of specs/; each function stands for a group of them.
+ghost use mathlib.Core.Path.{_≡_};
+ghost use mathlib.Core.Bool.{true};
 ghost use Rattle.worked.specs.Calls.{Calls-worked};
 ghost use Rattle.worked.specs.Depths.{Depths-worked};
 ghost use Rattle.worked.specs.Flow.{Flow-worked};
 ghost use Rattle.worked.specs.Traps.{Traps-worked};
 
 // Examples of calls, actuals and results compute as they are told.
-pub fn calls_compute() -> u8
-    ensures { λ _. ⌜ Calls-worked ⌝ }
+pub fn calls_compute() -> bool
+    ensures { λ r. ⌜ (r ≡ true) × Calls-worked ⌝ }
 {
-    0
+    true
 }
 
 // Examples of places and depths of actions compute as they are told.
-pub fn depths_compute() -> u8
-    ensures { λ _. ⌜ Depths-worked ⌝ }
+pub fn depths_compute() -> bool
+    ensures { λ r. ⌜ (r ≡ true) × Depths-worked ⌝ }
 {
-    0
+    true
 }
 
 // Examples of the order of bodies, tests and turns compute as they are told.
-pub fn flow_compute() -> u8
-    ensures { λ _. ⌜ Flow-worked ⌝ }
+pub fn flow_compute() -> bool
+    ensures { λ r. ⌜ (r ≡ true) × Flow-worked ⌝ }
 {
-    0
+    true
 }
 
 // Examples of traps, and where arrays are opened compute as they are told.
-pub fn traps_compute() -> u8
-    ensures { λ _. ⌜ Traps-worked ⌝ }
+pub fn traps_compute() -> bool
+    ensures { λ r. ⌜ (r ≡ true) × Traps-worked ⌝ }
 {
-    0
+    true
 }
