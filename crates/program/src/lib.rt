@@ -7,5 +7,5 @@ ghost use Rattle.program.specs.Theorems.{Decided};
 pub fn well_formed_decided() -> bool
     ensures { λ r. ⌜ (r ≡ true) × Decided ⌝ }
 {
-    true
+    true // both ways
 }

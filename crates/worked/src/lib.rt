@@ -10,26 +10,26 @@ ghost use Rattle.worked.specs.Traps.{Traps-worked};
 pub fn calls_compute() -> bool
     ensures { λ r. ⌜ (r ≡ true) × Calls-worked ⌝ }
 {
-    true
+    true // calls, actuals and results
 }
 
 // Examples of places and depths of actions compute as they are told.
 pub fn depths_compute() -> bool
     ensures { λ r. ⌜ (r ≡ true) × Depths-worked ⌝ }
 {
-    true
+    true // places and depths
 }
 
 // Examples of the order of bodies, tests and turns compute as they are told.
 pub fn flow_compute() -> bool
     ensures { λ r. ⌜ (r ≡ true) × Flow-worked ⌝ }
 {
-    true
+    true // bodies, tests and turns
 }
 
 // Examples of traps, and where arrays are opened compute as they are told.
 pub fn traps_compute() -> bool
     ensures { λ r. ⌜ (r ≡ true) × Traps-worked ⌝ }
 {
-    true
+    true // traps and closed types
 }
