@@ -1,18 +1,16 @@
 -- No move raises the peak of the list of tasks, and no call does.
-use Prim.{Unit, tt, absurd}
+use Prim.{tt, absurd}
 use Prim.Native.Nat.{ℕ, zero, suc, _+_, _≤_, _<_, max}
 use native.Mathlib.Omega.{arith}
-use mathlib.Core.Path.{_≡_, refl, sym, subst}
+use mathlib.Core.Path.{sym, subst}
 use mathlib.Core.Bool.{Bool, true, false, cond}
 use mathlib.Core.List.{List, [], _∷_}
 use lib.ListN.{length}
 use lib.IntN.{ℤ}
-use lib.Dec.{T}
 use Rattle.fault.specs.declared.Trap.{Trap}
 use Rattle.std.specs.declared.result.Result.{Result}
 use Rattle.std.specs.declared.result.Result.the-variants.{Ok, Err}
-use Rattle.program.specs.Types.{Simple, Writing, Shape, Fields}
-use Rattle.program.specs.Trees.{At, Variable, Sign, Operator, Junction, Name, Formal, Expr, Designator, Actuals, Stmt, Arms, Parts, Procedure, Function, Program}
+use Rattle.program.specs.Trees.{At, Expr, Designator, Actuals, Stmt, Arms, Parts, Procedure, Function}
 use Rattle.program.specs.Types.{fits}
 use Rattle.program.specs.Trees.Expr.{constant, value, register, unary, binary, junction, apply}
 use Rattle.program.specs.Trees.Designator.{whole, element, part}
@@ -24,15 +22,14 @@ use Rattle.program.specs.Trees.Procedure.{procedure}
 use Rattle.program.specs.Trees.Function.{function}
 use Rattle.meaning.specs.Actions.{Action, Cells, Line, Event, outcome, truth}
 use Rattle.meaning.specs.Actions.Event.{step, give, took}
-use Rattle.meaning.specs.Meaning.{needed, whole-body}
-use Rattle.machine.specs.Machine.{Task, Held, Config, Next, Answer, Now, the-value, top, next-of, next, acted, answer, start, moved-on, arrives, next-apply, next-call}
+use Rattle.meaning.specs.Meaning.{needed}
+use Rattle.machine.specs.Machine.{Task, Held, Config, Next, Now, the-value, top, next-of, next, acted, answer, start, moved-on, arrives, next-apply, next-call}
 use Rattle.machine.specs.Machine.Task.{to-eval, to-locate, to-pass, to-exec, to-arms, to-turn, to-take, to-receive, to-sign, to-operate, to-decide, to-index, to-select, to-store, to-write, to-deliver, to-test, to-while, to-until, to-exit, to-close, to-apply, to-call, to-leave, to-leave-with}
 use Rattle.machine.specs.Machine.Next.{none, acts, awaits, offers}
-use Rattle.machine.specs.Machine.Answer.{refused, went-on, was-taken, fell}
-use Rattle.machine.specs.Machine.Now.{there, fallen}
+use Rattle.machine.specs.Machine.Answer.{refused, went-on}
 use Rattle.machine.specs.Moves.{Move, move, move-eval, move-locate, move-pass, move-exec, move-arms, move-turn, weight, Sound-move}
 use Rattle.machine.specs.Moves.Move.{rests, moves}
-use Rattle.machine.specs.Height.{expr-room, designator-room, actuals-room, stmt-room, arms-room, parts-room, procedure-room, function-room, task-room, peak, height, Low-next, Low-move, Low-now}
+use Rattle.machine.specs.Height.{expr-room, stmt-room, parts-room, peak, height, Low-next, Low-move, Low-now}
 use Rattle.machine.specs.Theorems.{Stays-low}
 use Rattle.machine.proofs.Moves.{moves-find}
 

@@ -1,18 +1,18 @@
 -- What happens with the value of a part, the part looks at only with the calls that it leaves over. So what does itself again is its own
 -- unrolling, whatever bounds the number of its turns.
-use Prim.{Unit, tt, absurd}
+use Prim.{tt, absurd}
 use Prim.Native.Nat.{ℕ, zero, suc, _≤_, _<_}
-use mathlib.Core.Path.{_≡_, refl, sym, ap, _∙_}
-use mathlib.Core.Bool.{Bool, true, false, cond}
+use mathlib.Core.Path.{_≡_, refl, sym, ap}
+use mathlib.Core.Bool.{Bool, true, false}
 use mathlib.Core.List.{List, [], _∷_}
 use native.Mathlib.Omega.{arith}
 use lib.ListN.{length}
-use lib.IntN.{ℤ, pos, natAbs}
+use lib.IntN.{ℤ, natAbs}
 use Rattle.fault.specs.declared.Trap.{Trap}
 use Rattle.std.specs.declared.result.Result.{Result}
 use Rattle.std.specs.declared.result.Result.the-variants.{Ok, Err}
-use Rattle.program.specs.Types.{Simple, Writing, Shape, Fields}
-use Rattle.program.specs.Trees.{At, Variable, Sign, Operator, Junction, Name, Formal, Expr, Designator, Actuals, Stmt, Arms, Parts, Procedure, Function, Program}
+use Rattle.program.specs.Types.{Simple}
+use Rattle.program.specs.Trees.{At, Expr, Designator, Actuals, Stmt, Arms, Parts, Procedure, Function}
 use Rattle.program.specs.Types.{fits}
 use Rattle.program.specs.Trees.Expr.{constant, value, register, unary, binary, junction, apply}
 use Rattle.program.specs.Trees.Designator.{whole, element, part}
@@ -22,7 +22,7 @@ use Rattle.program.specs.Trees.Arms.{otherwise, arm}
 use Rattle.program.specs.Trees.Parts.{ends, exits}
 use Rattle.program.specs.Trees.Procedure.{procedure}
 use Rattle.program.specs.Trees.Function.{function}
-use Rattle.meaning.specs.Actions.{Item, Action, Cells, Line, Event, Run, Behaviour, stop, also, outcome, truth}
+use Rattle.meaning.specs.Actions.{Item, Action, Cells, Event, Run, Behaviour, also, outcome, truth}
 use Rattle.meaning.specs.Actions.Action.{a-turn, a-test}
 use Rattle.meaning.specs.Actions.Event.{step, give, took}
 use Rattle.meaning.specs.Meaning.{M, Done, return, act, await, deliver, goes-on, if-fits, unroll, again-and-again, choose, needed, eval, locate, actuals, exec, arms, turn, applied, called, _>>_}

@@ -1,26 +1,18 @@
 -- A move keeps the next action and loses weight.
-use Prim.Native.Nat.{ℕ, zero, suc, _+_, _<_}
 use native.Mathlib.Omega.{arith}
-use mathlib.Core.Path.{_≡_, refl}
-use mathlib.Core.Bool.{Bool, true, false, cond}
-use mathlib.Core.List.{List, [], _∷_, tail}
-use lib.IntN.{ℤ, pos, natAbs}
-use Rattle.program.specs.Types.{Simple, Writing, Shape, Fields}
-use Rattle.program.specs.Trees.{At, Variable, Sign, Operator, Junction, Name, Formal, Expr, Designator, Actuals, Stmt, Arms, Parts, Procedure, Function, Program}
+use mathlib.Core.Path.{refl}
+use mathlib.Core.Bool.{Bool}
+use mathlib.Core.List.{List, [], _∷_}
+use Rattle.program.specs.Trees.{Expr, Designator, Actuals, Stmt, Arms, Parts}
 use Rattle.program.specs.Trees.Expr.{constant, value, register, unary, binary, junction, apply}
 use Rattle.program.specs.Trees.Designator.{whole, element, part}
 use Rattle.program.specs.Trees.Actuals.{no-more, a-value, a-variable}
 use Rattle.program.specs.Trees.Stmt.{skip, seq, assign, offer, if, while, repeat, loop, call}
 use Rattle.program.specs.Trees.Arms.{otherwise, arm}
 use Rattle.program.specs.Trees.Parts.{ends, exits}
-use Rattle.program.specs.Trees.Procedure.{procedure}
-use Rattle.program.specs.Trees.Function.{function}
-use Rattle.machine.specs.Machine.{Task, Held, Config, Next, Answer, the-value, the-cell, the-way, top, push, pop, pops, opens, closes, enters, leaves, formals, then, how-many, next-take, next-select, next-apply, next-call, next-eval, next-locate, next-pass, next-exec, next-arms, next-turn, next-task, next-of, next, state-of, acted, answer, after, run, start}
+use Rattle.machine.specs.Machine.{Task, Held}
 use Rattle.machine.specs.Machine.Task.{to-eval, to-locate, to-pass, to-exec, to-arms, to-turn, to-take, to-receive, to-sign, to-operate, to-decide, to-index, to-select, to-store, to-write, to-deliver, to-test, to-while, to-until, to-exit, to-close, to-apply, to-call, to-leave, to-leave-with}
-use Rattle.machine.specs.Machine.Next.{none, acts, awaits, offers}
-use Rattle.machine.specs.Machine.Answer.{refused, went-on, was-taken, fell}
-use Rattle.machine.specs.Moves.{Move, move, move-eval, move-locate, move-pass, move-exec, move-arms, move-turn, weight, Sound-move, expr-weight, designator-weight, actuals-weight, stmt-weight, arms-weight, parts-weight}
-use Rattle.machine.specs.Moves.Move.{rests, moves}
+use Rattle.machine.specs.Moves.{move-eval, move-locate, move-pass, move-exec, move-arms, move-turn, Sound-move}
 use Rattle.machine.specs.Theorems.{Moves-find}
 
 eval-move : (e : Expr) (k : List Task) (h : Held) → Sound-move (to-eval e ∷ k) h (move-eval e k h)

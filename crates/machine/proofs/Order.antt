@@ -1,6 +1,6 @@
 -- The law of order, read off the machine: refused calls count for nothing, what has been done stays, and the state tells what a call does.
-use Prim.{Unit, tt, absurd}
-use Prim.Native.Nat.{ℕ, zero, suc}
+use Prim.{absurd}
+use Prim.Native.Nat.{ℕ, suc}
 use mathlib.Core.Path.{_≡_, refl, sym, ap, _∙_, subst}
 use mathlib.Core.Bool.{Bool, true, false, cond, not}
 use mathlib.Core.List.{List, [], _∷_, _++_}
@@ -15,9 +15,9 @@ use Rattle.program.specs.Trees.{At, Program}
 use Rattle.meaning.specs.Actions.{Action, Cells, Line, Event, State, Run, stop, also, outcome}
 use Rattle.meaning.specs.Actions.Line.{did, was-given}
 use Rattle.meaning.specs.Actions.Event.{step, give, took}
-use Rattle.meaning.specs.Actions.State.{ready, finished, trapped, awaiting, offering}
+use Rattle.meaning.specs.Actions.State.{finished, trapped}
 use Rattle.meaning.specs.Meaning.{meaning}
-use Rattle.meaning.specs.Order.{accepts, keep-if, accepted-after, accepted-calls, actions, steps-in, Answers, Ordered, In-order}
+use Rattle.meaning.specs.Order.{accepts, keep-if, accepted-after, accepted-calls, actions, steps-in, Answers, In-order}
 use Rattle.machine.specs.Machine.{Config, Next, Answer, Now, next, state-of, acted, answer, after, run, start, moved-on, arrives, kept, not-refused}
 use Rattle.machine.specs.Machine.Next.{none, acts, awaits, offers}
 use Rattle.machine.specs.Machine.Answer.{refused, went-on, was-taken, fell}

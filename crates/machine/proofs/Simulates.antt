@@ -1,17 +1,16 @@
 -- The machine does what the program means. What a configuration still means is said task by task, and its next action is the first of that.
-use Prim.{Unit, tt, absurd}
-use Prim.Native.Nat.{ℕ, zero, suc, _+_}
+use Prim.{tt}
+use Prim.Native.Nat.{ℕ, suc, _+_}
 use native.Mathlib.Omega.{arith}
 use mathlib.Core.Path.{_≡_, refl, sym, ap, _∙_, fun-ext, subst}
 use mathlib.Core.Bool.{Bool, true, false, cond}
-use mathlib.Core.List.{List, [], _∷_, _++_, tail}
-use lib.ListN.{length, take, drop}
-use lib.IntN.{ℤ, pos, natAbs}
+use mathlib.Core.List.{List, [], _∷_, _++_}
+use lib.ListN.{length, take}
+use lib.IntN.{ℤ, natAbs}
 use Rattle.fault.specs.declared.Trap.{Trap}
 use Rattle.std.specs.declared.result.Result.{Result}
 use Rattle.std.specs.declared.result.Result.the-variants.{Ok, Err}
-use Rattle.program.specs.Types.{Simple, Writing, Shape, Fields}
-use Rattle.program.specs.Trees.{At, Variable, Sign, Operator, Junction, Name, Formal, Expr, Designator, Actuals, Stmt, Arms, Parts, Procedure, Function, Program}
+use Rattle.program.specs.Trees.{At, Expr, Designator, Actuals, Stmt, Arms, Parts, Procedure, Function}
 use Rattle.program.specs.Types.{fits}
 use Rattle.program.specs.Trees.Expr.{constant, value, register, unary, binary, junction, apply}
 use Rattle.program.specs.Trees.Designator.{whole, element, part}
@@ -21,18 +20,17 @@ use Rattle.program.specs.Trees.Arms.{otherwise, arm}
 use Rattle.program.specs.Trees.Parts.{ends, exits}
 use Rattle.program.specs.Trees.Procedure.{procedure}
 use Rattle.program.specs.Trees.Function.{function}
-use Rattle.meaning.specs.Actions.{Way, Item, Action, Cells, Line, Event, State, Run, Behaviour, stop, also, outcome, truth}
-use Rattle.meaning.specs.Actions.Way.{direct, onward}
+use Rattle.meaning.specs.Actions.{Item, Action, Cells, Line, Event, Run, Behaviour, stop, also, outcome, truth}
 use Rattle.meaning.specs.Actions.Item.{val, ref}
-use Rattle.meaning.specs.Actions.Action.{a-constant, a-take, a-read, an-index, a-sign, an-operator, a-decision, a-test, a-turn, a-store, a-write, an-entry, a-leave, a-leave-with}
-use Rattle.meaning.specs.Actions.Line.{did, was-given}
+use Rattle.meaning.specs.Actions.Action.{a-take, an-index, a-sign, an-operator, a-decision, a-test, a-store, a-write, a-leave, a-leave-with}
+use Rattle.meaning.specs.Actions.Line.{was-given}
 use Rattle.meaning.specs.Actions.Event.{step, give, took}
-use Rattle.meaning.specs.Actions.State.{ready, finished, trapped, awaiting, offering}
-use Rattle.meaning.specs.Meaning.{M, Done, return, act, await, deliver, goes-on, if-fits, choose, eval, locate, actuals, exec, arms, turn, applied, called, _>>_, _>>=_, cell-of, way, moved, lent, needed, meaning}
-use Rattle.machine.specs.Machine.{Task, Held, Config, Next, Answer, the-value, the-cell, the-way, top, push, pop, pops, opens, closes, enters, leaves, formals, then, how-many, next-take, next-select, next-apply, next-call, next-eval, next-locate, next-pass, next-exec, next-arms, next-turn, next-task, next-of, next, state-of, acted, answer, after, run, start}
+use Rattle.meaning.specs.Actions.State.{finished}
+use Rattle.meaning.specs.Meaning.{M, Done, return, act, await, deliver, goes-on, if-fits, choose, eval, locate, actuals, exec, arms, turn, applied, called, _>>=_, _>>_, way, needed}
+use Rattle.machine.specs.Machine.{Task, Held, Config, Next, the-value, the-cell, the-way, top, push, pop, pops, opens, closes, leaves, formals, then, how-many, next-take, next-select, next-apply, next-call, next-eval, next-locate, next-pass, next-exec, next-arms, next-turn, next-task, next-of, next, state-of, acted, answer, after, run, start}
 use Rattle.machine.specs.Machine.Task.{to-eval, to-locate, to-pass, to-exec, to-arms, to-turn, to-take, to-receive, to-sign, to-operate, to-decide, to-index, to-select, to-store, to-write, to-deliver, to-test, to-while, to-until, to-exit, to-close, to-apply, to-call, to-leave, to-leave-with}
 use Rattle.machine.specs.Machine.Next.{none, acts, awaits, offers}
-use Rattle.machine.specs.Machine.Answer.{refused, went-on, was-taken, fell}
+use Rattle.machine.specs.Machine.Answer.{refused, went-on}
 use Rattle.machine.specs.Theorems.{Simulates}
 use Rattle.machine.proofs.Local.{while-turns, repeat-turns, loop-turns}
 

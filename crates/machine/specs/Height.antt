@@ -1,11 +1,9 @@
 -- How high the list of tasks gets: a bound that is reckoned from the program.
 use Prim.Native.Nat.{ℕ, suc, _+_, _≤_, max}
-use mathlib.Core.Bool.{Bool}
 use mathlib.Core.List.{List, [], _∷_}
 use lib.ListN.{length}
 use lib.IntN.{ℤ}
-use Rattle.program.specs.Types.{Simple, Writing, Shape, Fields}
-use Rattle.program.specs.Trees.{At, Variable, Sign, Operator, Junction, Name, Formal, Expr, Designator, Actuals, Stmt, Arms, Parts, Procedure, Function, Program}
+use Rattle.program.specs.Trees.{Expr, Designator, Actuals, Stmt, Arms, Parts, Procedure, Function, Program}
 use Rattle.program.specs.Trees.Expr.{constant, value, register, unary, binary, junction, apply}
 use Rattle.program.specs.Trees.Designator.{whole, element, part}
 use Rattle.program.specs.Trees.Actuals.{no-more, a-value, a-variable}
@@ -15,7 +13,7 @@ use Rattle.program.specs.Trees.Parts.{ends, exits}
 use Rattle.program.specs.Trees.Procedure.{procedure}
 use Rattle.program.specs.Trees.Function.{function}
 use Rattle.meaning.specs.Meaning.{whole-body}
-use Rattle.machine.specs.Machine.{Task, Config, Next, Now}
+use Rattle.machine.specs.Machine.{Task, Next, Now}
 use Rattle.machine.specs.Machine.Task.{to-eval, to-locate, to-pass, to-exec, to-arms, to-turn, to-take, to-receive, to-sign, to-operate, to-decide, to-index, to-select, to-store, to-write, to-deliver, to-test, to-while, to-until, to-exit, to-close, to-apply, to-call, to-leave, to-leave-with}
 use Rattle.machine.specs.Machine.Next.{none, acts, awaits, offers}
 use Rattle.machine.specs.Machine.Now.{there, fallen}

@@ -1,15 +1,14 @@
 -- The machine: it keeps a list of tasks, each a part of the text that is still to be done, and does one action a step.
-use Prim.{Unit, tt}
 use Prim.Native.Nat.{ℕ, zero, suc, _+_}
 use mathlib.Core.Bool.{Bool, true, false, cond}
 use mathlib.Core.List.{List, [], _∷_, tail}
-use lib.ListN.{take, drop}
+use lib.ListN.{take}
 use lib.IntN.{ℤ, pos, natAbs}
 use Rattle.fault.specs.declared.Trap.{Trap}
 use Rattle.std.specs.declared.result.Result.{Result}
 use Rattle.std.specs.declared.result.Result.the-variants.{Ok, Err}
-use Rattle.program.specs.Types.{Simple, Writing, Shape, Fields}
-use Rattle.program.specs.Trees.{At, Variable, Sign, Operator, Junction, Name, Formal, Expr, Designator, Actuals, Stmt, Arms, Parts, Procedure, Function, Program}
+use Rattle.program.specs.Types.{Simple, Writing, Shape}
+use Rattle.program.specs.Trees.{At, Sign, Operator, Junction, Expr, Designator, Actuals, Stmt, Arms, Parts, Procedure, Function, Program}
 use Rattle.program.specs.Types.{fits}
 use Rattle.program.specs.Trees.Expr.{constant, value, register, unary, binary, junction, apply}
 use Rattle.program.specs.Trees.Designator.{whole, element, part}
@@ -21,7 +20,7 @@ use Rattle.program.specs.Trees.Procedure.{procedure}
 use Rattle.program.specs.Trees.Function.{function}
 use Rattle.program.specs.WellFormed.{last-first}
 use Rattle.meaning.specs.Actions.{Way, Item, Action, Cells, Line, Event, State, Run, stop, also, outcome, truth}
-use Rattle.meaning.specs.Actions.Way.{direct, onward}
+use Rattle.meaning.specs.Actions.Way.{direct}
 use Rattle.meaning.specs.Actions.Item.{val, ref}
 use Rattle.meaning.specs.Actions.Action.{a-constant, a-take, a-read, an-index, a-sign, an-operator, a-decision, a-test, a-turn, a-store, a-write, an-entry, a-leave, a-leave-with}
 use Rattle.meaning.specs.Actions.Line.{did, was-given}

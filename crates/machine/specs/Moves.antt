@@ -1,29 +1,21 @@
 -- The loop by which an engine finds the next action: it looks at the first task only; either that acts, or it is replaced by smaller tasks.
-use Prim.Native.Nat.{ℕ, zero, suc, _+_, _<_}
+use Prim.Native.Nat.{ℕ, suc, _+_, _<_}
 use mathlib.Core.Path.{_≡_}
-use mathlib.Core.Bool.{Bool, true, false, cond}
-use mathlib.Core.List.{List, [], _∷_, tail}
-use lib.ListN.{take, drop}
-use lib.IntN.{ℤ, pos, natAbs}
-use Rattle.program.specs.Types.{Simple, Writing, Shape, Fields}
-use Rattle.program.specs.Trees.{At, Variable, Sign, Operator, Junction, Name, Formal, Expr, Designator, Actuals, Stmt, Arms, Parts, Procedure, Function, Program}
+use mathlib.Core.Bool.{Bool, true, false}
+use mathlib.Core.List.{List, [], _∷_}
+use Rattle.program.specs.Trees.{Expr, Designator, Actuals, Stmt, Arms, Parts}
 use Rattle.program.specs.Trees.Expr.{constant, value, register, unary, binary, junction, apply}
 use Rattle.program.specs.Trees.Designator.{whole, element, part}
 use Rattle.program.specs.Trees.Actuals.{no-more, a-value, a-variable}
 use Rattle.program.specs.Trees.Stmt.{skip, seq, assign, offer, if, while, repeat, loop, call}
 use Rattle.program.specs.Trees.Arms.{otherwise, arm}
 use Rattle.program.specs.Trees.Parts.{ends, exits}
-use Rattle.program.specs.Trees.Procedure.{procedure}
-use Rattle.program.specs.Trees.Function.{function}
-use Rattle.meaning.specs.Actions.{Way, Item, Action}
-use Rattle.meaning.specs.Actions.Way.{direct, onward}
 use Rattle.meaning.specs.Actions.Item.{val, ref}
-use Rattle.meaning.specs.Actions.Action.{a-constant, a-take, a-read, an-index, a-sign, an-operator, a-decision, a-test, a-turn, a-store, a-write, an-entry, a-leave, a-leave-with}
+use Rattle.meaning.specs.Actions.Action.{a-constant, a-read, a-turn}
 use Rattle.meaning.specs.Meaning.{cell-of, way}
-use Rattle.machine.specs.Machine.{Task, Held, Config, Next, Answer, the-value, the-cell, the-way, top, push, pop, pops, opens, closes, enters, leaves, formals, then, how-many, next-take, next-select, next-apply, next-call, next-eval, next-locate, next-pass, next-exec, next-arms, next-turn, next-task, next-of, next, state-of, acted, answer, after, run, start}
+use Rattle.machine.specs.Machine.{Task, Held, Next, the-cell, the-way, top, push, pop, opens, closes, formals, then, how-many, next-of}
 use Rattle.machine.specs.Machine.Task.{to-eval, to-locate, to-pass, to-exec, to-arms, to-turn, to-take, to-receive, to-sign, to-operate, to-decide, to-index, to-select, to-store, to-write, to-deliver, to-test, to-while, to-until, to-exit, to-close, to-apply, to-call, to-leave, to-leave-with}
-use Rattle.machine.specs.Machine.Next.{none, acts, awaits, offers}
-use Rattle.machine.specs.Machine.Answer.{refused, went-on, was-taken, fell}
+use Rattle.machine.specs.Machine.Next.{none, acts}
 
 pub data Move : Type 0 where
   rests : Next → Move

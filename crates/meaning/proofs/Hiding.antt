@@ -1,12 +1,12 @@
 -- From lawful actions: who changes a cell, and what never changes.
-use Prim.{Unit, tt, ⊥, ¬_, absurd}
+use Prim.{tt, absurd}
 use Prim.Native.Nat.{ℕ, zero, suc, _+_, _<_, _≤_}
 use native.Mathlib.Omega.{arith}
-use mathlib.Core.Path.{_≡_, refl, sym, ap, _∙_, subst}
+use mathlib.Core.Path.{_≡_, refl, sym, _∙_, subst}
 use mathlib.Core.Logic.{_⊎_, inl, inr}
 use mathlib.Core.Bool.{Bool, true, false, _||_}
 use mathlib.Core.List.{List, [], _∷_}
-use mathlib.Core.Option.{Option, none, some}
+use mathlib.Core.Option.{some}
 use lib.ListN.{length, getD, set, drop, length-set}
 use lib.Seq.{drop-set-lt}
 use lib.IntN.{ℤ, pos}
@@ -14,13 +14,13 @@ use lib.Dec.{T, eqb, eqb-refl}
 use Rattle.fault.specs.declared.Trap.{Trap}
 use Rattle.std.specs.declared.result.Result.{Result}
 use Rattle.std.specs.declared.result.Result.the-variants.{Ok, Err}
-use Rattle.program.specs.Types.{Simple, Writing, Shape, size}
+use Rattle.program.specs.Types.{Simple, size}
 use Rattle.program.specs.Trees.{At, Variable, Formal, Program}
 use Rattle.program.specs.Trees.Formal.{by-const, by-var}
 use Rattle.program.specs.Cells.{Cell, cell, Cell-at, Mine, table, Dealt, inside-of, part-of}
-use Rattle.program.specs.WellFormed.{Owned, Owned-simple, Formals-owned, All-owned, Well-formed}
+use Rattle.program.specs.WellFormed.{Owned, Owned-simple, Formals-owned, All-owned}
 use Rattle.program.proofs.Dealing.{elem-below, dealt-cells}
-use Rattle.meaning.specs.Actions.{Way, Item, Action, Cells, Line, Event, cleared, zeroed, placed, written, left}
+use Rattle.meaning.specs.Actions.{Way, Item, Action, Cells, Line, cleared, zeroed, placed, written, left}
 use Rattle.meaning.specs.Actions.Way.{direct, onward}
 use Rattle.meaning.specs.Actions.Item.{val, ref}
 use Rattle.meaning.specs.Actions.Action.{a-constant, a-take, a-read, an-index, a-sign, an-operator, a-decision, a-test, a-turn, a-store, a-write, an-entry, a-leave, a-leave-with}
@@ -28,7 +28,7 @@ use Rattle.meaning.specs.Actions.Line.{did, was-given}
 use Rattle.meaning.specs.Meaning.{meaning}
 use Rattle.meaning.specs.Hiding.{Open, opened, Lent, By-formal, Minds, Hides, Modules-hide}
 use Rattle.meaning.specs.Hiding.By-formal.{store-onward}
-use Rattle.meaning.proofs.Lawful.{Is, Named, law, Lawful, simple-is}
+use Rattle.meaning.proofs.Lawful.{Named, law, Lawful, simple-is}
 use Rattle.meaning.proofs.Typing.{set-is, lawful}
 
 -- a module's text is part of itself

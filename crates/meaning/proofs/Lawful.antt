@@ -3,10 +3,10 @@
 use Prim.{Unit, tt, ⊥, absurd}
 use Prim.Native.Nat.{ℕ, zero, suc, _+_}
 use native.Mathlib.Omega.{arith}
-use mathlib.Core.Path.{_≡_, refl, sym, ap, _∙_, subst}
-use mathlib.Core.Logic.{_⊎_, inl, inr}
-use mathlib.Core.Bool.{Bool, true, false, cond}
-use mathlib.Core.List.{List, [], _∷_, tail, reverseAux}
+use mathlib.Core.Path.{_≡_, refl, sym, ap, subst}
+use mathlib.Core.Logic.{inl, inr}
+use mathlib.Core.Bool.{Bool, true, false}
+use mathlib.Core.List.{List, [], _∷_, reverseAux}
 use mathlib.Core.Option.{Option, none, some}
 use lib.ListN.{length, getD, getElem?}
 use lib.IntN.{ℤ, pos, natAbs}
@@ -14,9 +14,9 @@ use lib.Dec.{T, leb}
 use Rattle.fault.specs.declared.Trap.{Trap}
 use Rattle.std.specs.declared.result.Result.{Result}
 use Rattle.std.specs.declared.result.Result.the-variants.{Ok, Err}
-use Rattle.program.specs.Types.{Simple, Writing, Shape, Fields}
-use Rattle.program.specs.Trees.{At, Variable, Sign, Operator, Junction, Name, Formal, Expr, Designator, Actuals, Stmt, Arms, Parts, Procedure, Function, Program}
-use Rattle.program.specs.Types.{Field, size, within, element-cell, fits}
+use Rattle.program.specs.Types.{Simple, Shape, Fields}
+use Rattle.program.specs.Trees.{At, Variable, Name, Formal, Expr, Designator, Actuals, Stmt, Arms, Parts, Procedure, Function, Program}
+use Rattle.program.specs.Types.{Field, size, element-cell, fits}
 use Rattle.program.specs.Types.Simple.{integer, boolean}
 use Rattle.program.specs.Types.Shape.{simple, array, record-of}
 use Rattle.program.specs.Types.Fields.{no-field, field-and}
@@ -30,7 +30,7 @@ use Rattle.program.specs.Trees.Arms.{otherwise, arm}
 use Rattle.program.specs.Trees.Parts.{ends, exits}
 use Rattle.program.specs.Trees.Procedure.{procedure}
 use Rattle.program.specs.Trees.Function.{function}
-use Rattle.program.specs.Cells.{Cell, cell, Cell-at, Mine, Each, Each-of, Part, Part-of, Dealt, part-of}
+use Rattle.program.specs.Cells.{cell, Cell-at, Mine, Each, Each-of, Part, Part-of, Dealt, part-of}
 use Rattle.program.specs.WellFormed.{ok-sign, ok-operator, last-first, var-shapes, Owned-simple, All-owned, Formals-owned, Allowed, ok-name, formals-of, function-formals, ok-expr, ok-designator, ok-actuals, ok-stmt, ok-arms, ok-parts, ok-procedure, ok-function}
 use Rattle.program.proofs.Dealing.{none-some, some-inj, dealt-each}
 use Rattle.meaning.specs.Actions.{Way, Item, Action, Cells, Line, Event, Run, Behaviour, gives, finds, outcome, first-trap, truth, deepest}
@@ -39,7 +39,7 @@ use Rattle.meaning.specs.Actions.Item.{val, ref}
 use Rattle.meaning.specs.Actions.Action.{a-constant, a-take, a-read, an-index, a-sign, an-operator, a-decision, a-test, a-turn, a-store, a-write, an-entry, a-leave, a-leave-with}
 use Rattle.meaning.specs.Actions.Line.{did, was-given}
 use Rattle.meaning.specs.Actions.Event.{step, give, took}
-use Rattle.meaning.specs.Meaning.{M, Done, return, act, await, deliver, goes-on, if-fits, unroll, again-and-again, choose, needed, cell-of, way, lent, eval, locate, actuals, exec, arms, turn, applied, called, _>>_}
+use Rattle.meaning.specs.Meaning.{M, Done, act, await, deliver, goes-on, if-fits, unroll, again-and-again, choose, needed, cell-of, way, lent, eval, locate, actuals, exec, arms, turn, applied, called}
 use Rattle.meaning.specs.Hiding.{Open, opened, Lent-by, Lent}
 use Rattle.meaning.proofs.Operators.{Fits, as-type, ok-inj, ok-err, operator-fits, sign-fits, index-ok}
 

@@ -1,10 +1,10 @@
 -- What operators and signs give fits its type, and they trap exactly where they have a cause.
 use Prim.{Unit, tt, ⊥, absurd, ¬_}
-use Prim.Native.Nat.{ℕ, zero, suc, _-_, _/_, _%_, _≤_, _<_}
+use Prim.Native.Nat.{ℕ, zero, suc, _-_, _/_, _≤_, _<_}
 use native.Mathlib.Omega.{arith}
 use native.Mathlib.Nat.{div-le-self, mod-lt}
 use borrow.Author.Differences.{ints}
-use mathlib.Core.Path.{_≡_, refl, sym, ap, _∙_, subst}
+use mathlib.Core.Path.{_≡_, refl, sym, ap, subst}
 use mathlib.Core.Bool.{Bool, true, false, cond, not}
 use lib.IntN.{ℤ, pos, negsuc, negℤ, natAbs, _+ℤ_, _-ℤ_, _*ℤ_}
 use lib.Signed.{quotZ, ltZ-yes, _<ℤ_}
@@ -12,8 +12,8 @@ use lib.Dec.{T, leb, leb→le, le→leb, nleb→lt}
 use Rattle.fault.specs.declared.Trap.{Trap}
 use Rattle.std.specs.declared.result.Result.{Result}
 use Rattle.std.specs.declared.result.Result.the-variants.{Ok, Err}
-use Rattle.fault.specs.declared.Trap.the-variants.{Index, Divisor, Beyond, Depth, Foreign}
-use Rattle.integer.specs.Integers.{greatest, bounded, floorPair, floored, quotientOf, remainderOf, truncated, quotient, remainder, negated}
+use Rattle.fault.specs.declared.Trap.the-variants.{Index, Divisor, Beyond}
+use Rattle.integer.specs.Integers.{greatest, bounded, floorPair, truncated, quotient, remainder}
 use Rattle.program.specs.Types.{Simple, Writing, Shape, fits, within, element-cell}
 use Rattle.program.specs.Types.Simple.{integer, boolean}
 use Rattle.program.specs.Trees.{Sign, Operator}

@@ -1,13 +1,12 @@
 -- From lawful actions: the cells stay typed, and an action traps exactly where it has a cause.
-use Prim.{Unit, tt, ⊥, ¬_, absurd}
+use Prim.{tt, absurd}
 use Prim.Native.Nat.{ℕ, zero, suc, _+_, _<_, _≤_}
 use native.Mathlib.Omega.{arith}
 use mathlib.Core.Path.{_≡_, refl, sym, ap, _∙_, subst}
 use mathlib.Core.Logic.{_⊎_, inl, inr}
-use mathlib.Core.Bool.{Bool, true, false, cond, not}
-use mathlib.Core.List.{List, [], _∷_, _++_}
-use mathlib.Core.Option.{some}
-use lib.ListN.{length, getD, getElem?, set, drop, replicate, length-replicate, getD-replicate, List·getD-append}
+use mathlib.Core.Bool.{Bool, true, false, not}
+use mathlib.Core.List.{List, [], _∷_}
+use lib.ListN.{length, getD, set, drop, replicate, length-replicate, getD-replicate, List·getD-append}
 use lib.IntN.{ℤ, pos, _+ℤ_, _-ℤ_, _*ℤ_}
 use lib.Dec.{T, leb, leb·zero, nleb→lt, leb→le}
 use Rattle.fault.specs.declared.Trap.{Trap}
@@ -17,11 +16,11 @@ use Rattle.fault.specs.Numbers.{trapNumber}
 use Rattle.fault.specs.declared.Trap.the-variants.{Index, Divisor, Beyond, Depth, Foreign}
 use Rattle.program.specs.Types.{Simple, fits, size}
 use Rattle.program.specs.Types.Simple.{integer, boolean, char, enumeration}
-use Rattle.program.specs.Trees.{At, Variable, Formal, Stmt, Program}
+use Rattle.program.specs.Trees.{Variable, Formal, Stmt, Program}
 use Rattle.program.specs.Trees.Formal.{by-const, by-var}
 use Rattle.program.specs.Trees.Operator.{plus, minus, times, over, div, modulo}
 use Rattle.program.specs.Cells.{Cell, cell, Cell-at, table, Dealt}
-use Rattle.program.specs.WellFormed.{Owned-simple, Formals-owned, All-owned, ok-stmt, ok-bodies, Well-formed}
+use Rattle.program.specs.WellFormed.{Formals-owned, ok-stmt, ok-bodies, Well-formed}
 use Rattle.program.proofs.Dealing.{none-some, some-inj, elem-below}
 use Rattle.meaning.specs.Actions.{Item, Action, Cells, Line, Event, gives, finds, first-trap, outcome, cleared, zeroed, placed, written, left, started, deepest}
 use Rattle.meaning.specs.Actions.Item.{val, ref}
@@ -31,7 +30,7 @@ use Rattle.meaning.specs.Meaning.{meaning, whole-body}
 use Rattle.meaning.specs.Hiding.{Open, opened}
 use Rattle.meaning.specs.Typing.{Undisturbed, Typed, Causes, Traps-exactly, Stays-typed, Types-kept}
 use Rattle.meaning.specs.Typing.Causes.{out-of-bounds, divisor-0, div-below-1, mod-below-1, sum-beyond, difference-beyond, product-beyond, too-deep}
-use Rattle.meaning.proofs.Operators.{Fits, as-type, ok-err, err-inj, sign-caused, operator-caused, index-caused, index-traps, beyond-traps, over-traps, div-traps, mod-traps}
+use Rattle.meaning.proofs.Operators.{Fits, ok-err, err-inj, sign-caused, operator-caused, index-caused, index-traps, beyond-traps, over-traps, div-traps, mod-traps}
 use Rattle.meaning.proofs.Lawful.{Is, law, Lawful, Match, simple-is, exec-safe}
 
 pub zero-fits : (t : Simple) → T (fits t (pos 0))

@@ -9,13 +9,12 @@ use lib.IntN.{ℤ, pos}
 use lib.Dec.{T}
 use Rattle.fault.specs.declared.Trap.{Trap}
 use Rattle.std.specs.declared.result.Result.{Result}
-use Rattle.std.specs.declared.result.Result.the-variants.{Ok, Err}
 use Rattle.program.specs.Types.{Writing, Shape}
 use Rattle.program.specs.Trees.{At, Formal, Program}
 use Rattle.program.specs.Trees.Formal.{by-const, by-var}
 use Rattle.program.specs.Cells.{Mine, Part, table, part-of}
 use Rattle.program.specs.WellFormed.{Well-formed}
-use Rattle.meaning.specs.Actions.{Way, Item, Action, Cells, Line, Event, left}
+use Rattle.meaning.specs.Actions.{Item, Action, Cells, Line, Event, left}
 use Rattle.meaning.specs.Actions.Way.{direct, onward}
 use Rattle.meaning.specs.Actions.Item.{val, ref}
 use Rattle.meaning.specs.Actions.Action.{a-constant, a-take, a-read, an-index, a-sign, an-operator, a-decision, a-test, a-turn, a-store, a-write, an-entry, a-leave, a-leave-with}

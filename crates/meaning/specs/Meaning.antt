@@ -4,12 +4,12 @@ use Prim.Native.Nat.{ℕ, zero, suc, _+_}
 use mathlib.Core.Bool.{Bool, true, false, cond, not}
 use mathlib.Core.List.{List, [], _∷_}
 use lib.ListN.{length, getD}
-use lib.IntN.{ℤ, pos, natAbs}
+use lib.IntN.{ℤ, natAbs}
 use Rattle.fault.specs.declared.Trap.{Trap}
 use Rattle.std.specs.declared.result.Result.{Result}
 use Rattle.std.specs.declared.result.Result.the-variants.{Ok, Err}
-use Rattle.program.specs.Types.{Simple, Writing, Shape, Fields}
-use Rattle.program.specs.Trees.{At, Variable, Sign, Operator, Junction, Name, Formal, Expr, Designator, Actuals, Stmt, Arms, Parts, Procedure, Function, Program}
+use Rattle.program.specs.Types.{Simple}
+use Rattle.program.specs.Trees.{At, Junction, Name, Expr, Designator, Actuals, Stmt, Arms, Parts, Procedure, Function, Program}
 use Rattle.program.specs.Types.{fits}
 use Rattle.program.specs.Trees.Junction.{and, or}
 use Rattle.program.specs.Trees.Name.{own, formal}
@@ -22,7 +22,7 @@ use Rattle.program.specs.Trees.Parts.{ends, exits}
 use Rattle.program.specs.Trees.Procedure.{procedure}
 use Rattle.program.specs.Trees.Function.{function}
 use Rattle.program.specs.WellFormed.{last-first}
-use Rattle.meaning.specs.Actions.{Way, Item, Action, Cells, Line, Event, State, Run, Behaviour, stop, also, outcome, truth}
+use Rattle.meaning.specs.Actions.{Way, Item, Action, Cells, Event, Run, Behaviour, stop, also, outcome, truth}
 use Rattle.meaning.specs.Actions.Way.{direct, onward}
 use Rattle.meaning.specs.Actions.Item.{val, ref}
 use Rattle.meaning.specs.Actions.Action.{a-constant, a-take, a-read, an-index, a-sign, an-operator, a-decision, a-test, a-turn, a-store, a-write, an-entry, a-leave, a-leave-with}

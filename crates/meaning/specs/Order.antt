@@ -1,17 +1,13 @@
 -- The law of order: what is done follows from the program and the accepted calls since the start, from nothing else.
-use Prim.{Unit, ⊥}
 use Prim.Native.Nat.{ℕ, suc}
 use mathlib.Core.Path.{_≡_}
-use mathlib.Core.Bool.{Bool, true, false, cond, not}
+use mathlib.Core.Bool.{Bool, true, false, not}
 use mathlib.Core.List.{List, [], _∷_, _++_}
 use lib.IntN.{ℤ}
 use lib.Dec.{T}
-use Rattle.fault.specs.declared.Trap.{Trap}
-use Rattle.std.specs.declared.result.Result.{Result}
-use Rattle.std.specs.declared.result.Result.the-variants.{Ok, Err}
-use Rattle.program.specs.Types.{Simple, fits}
+use Rattle.program.specs.Types.{fits}
 use Rattle.program.specs.Trees.{At, Program}
-use Rattle.meaning.specs.Actions.{Action, Cells, Line, Event, State, Run, outcome}
+use Rattle.meaning.specs.Actions.{Action, Cells, Line, Event, State, outcome}
 use Rattle.meaning.specs.Actions.Line.{did, was-given}
 use Rattle.meaning.specs.Actions.Event.{step, give, took}
 use Rattle.meaning.specs.Actions.State.{ready, finished, trapped, awaiting, offering}

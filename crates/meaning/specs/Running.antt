@@ -2,15 +2,10 @@
 use Prim.Native.Nat.{ℕ, zero, suc}
 use mathlib.Core.List.{List, [], _∷_, _++_}
 use lib.ListN.{length}
-use lib.IntN.{ℤ, pos}
-use lib.Chars.{codes}
-use Rattle.fault.specs.declared.Trap.{Trap}
-use Rattle.std.specs.declared.result.Result.{Result}
-use Rattle.std.specs.declared.result.Result.the-variants.{Ok, Err}
+use lib.IntN.{ℤ}
 use Rattle.program.specs.Types.{Shape, Writing}
 use Rattle.program.specs.Trees.{At, Variable, Program}
-use Rattle.program.specs.Cells.{table}
-use Rattle.meaning.specs.Actions.{Cells, Action, Line, Event, State, Run, left, started}
+use Rattle.meaning.specs.Actions.{Cells, Action, Line, Event, State, left, started}
 use Rattle.meaning.specs.Actions.Action.{a-constant, a-take, a-read, an-index, a-sign, an-operator, a-decision, a-test, a-turn, a-store, a-write, an-entry, a-leave, a-leave-with}
 use Rattle.meaning.specs.Actions.Line.{did, was-given}
 use Rattle.meaning.specs.Actions.Event.{step, give, took}

@@ -1,5 +1,5 @@
 -- The law of types: if nobody else writes, the cells hold values of their types all along, and an action traps exactly where it has a cause.
-use Prim.{Unit, ⊥, ¬_}
+use Prim.{Unit, ¬_}
 use Prim.Native.Nat.{ℕ, _<_, _≤_}
 use mathlib.Core.Path.{_≡_}
 use mathlib.Core.List.{List, [], _∷_}
@@ -9,7 +9,7 @@ use lib.Signed.{_<ℤ_}
 use lib.Dec.{T}
 use Rattle.fault.specs.declared.Trap.{Trap}
 use Rattle.std.specs.declared.result.Result.{Result}
-use Rattle.std.specs.declared.result.Result.the-variants.{Ok, Err}
+use Rattle.std.specs.declared.result.Result.the-variants.{Err}
 use Rattle.fault.specs.Numbers.{trapNumber}
 use Rattle.fault.specs.declared.Trap.the-variants.{Index, Divisor, Beyond, Depth, Foreign}
 use Rattle.integer.specs.Integers.{greatest}

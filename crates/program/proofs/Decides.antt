@@ -1,20 +1,20 @@
 -- Each test of the Bool function decides its part of the judgment.
 use Prim.{Unit, tt, ⊥, absurd}
-use Prim.Native.Nat.{ℕ, zero, suc, _+_, _-_, _≤_}
+use Prim.Native.Nat.{ℕ, suc, _+_, _-_, _≤_}
 use native.Mathlib.Omega.{arith}
-use mathlib.Core.Path.{_≡_, refl, sym, ap, _∙_, subst}
+use mathlib.Core.Path.{_≡_, refl, sym, ap, subst}
 use mathlib.Core.Logic.{_⊎_, inl, inr}
 use mathlib.Core.Bool.{Bool, true, false, _&&_, _||_}
 use mathlib.Core.List.{List, [], _∷_}
 use mathlib.Core.Option.{Option, none, some}
 use lib.ListN.{getElem?}
-use lib.IntN.{ℤ, pos, negsuc, natAbs}
+use lib.IntN.{ℤ, pos, negsuc}
 use lib.Dec.{T, eqb, leb, eqb→eq, eqb-refl, leb→le, le→leb}
 use Rattle.program.specs.Types.{Simple, Writing, Shape, Fields, Field, size, fits}
 use Rattle.program.specs.Types.Simple.{integer, boolean, char, enumeration}
 use Rattle.program.specs.Types.Shape.{simple, array, record-of}
 use Rattle.program.specs.Types.Fields.{no-field, field-and}
-use Rattle.program.specs.Trees.{At, Variable, Sign, Operator, Junction, Name, Formal, Expr, Designator, Actuals, Stmt, Arms, Parts, Procedure, Function, Program}
+use Rattle.program.specs.Trees.{Variable, Sign, Operator, Name, Formal, Expr, Designator, Actuals, Stmt, Arms, Parts, Procedure, Function, Program}
 use Rattle.program.specs.Trees.Sign.{plus-sign, minus-sign, not-sign}
 use Rattle.program.specs.Trees.Operator.{plus, minus, times, over, div, modulo, xor, eq, ne, lt, le, gt, ge}
 use Rattle.program.specs.Trees.Name.{own, formal}
@@ -28,7 +28,7 @@ use Rattle.program.specs.Trees.Parts.{ends, exits}
 use Rattle.program.specs.Trees.Procedure.{procedure}
 use Rattle.program.specs.Trees.Function.{function}
 use Rattle.program.specs.Cells.{part-of, Dealt}
-use Rattle.program.specs.WellFormed.{Among, ok-sign, ok-operator, last-first, var-shapes, Owned, Owned-simple, All-owned, Formals-owned, Allowed, ok-name, formals-of, function-formals, ok-expr, ok-designator, ok-actuals, ok-stmt, ok-arms, ok-parts, ok-procedure, ok-function, ok-bodies, Nested, Well-formed}
+use Rattle.program.specs.WellFormed.{Among, ok-sign, ok-operator, last-first, var-shapes, Owned, Owned-simple, All-owned, Formals-owned, Allowed, ok-name, formals-of, function-formals, ok-expr, ok-designator, ok-actuals, ok-stmt, ok-arms, ok-parts, ok-procedure, ok-function, ok-bodies, Nested, few-cells, sane-variables}
 use Rattle.program.specs.Decided.{same-simple, same-writing, same-integer, same-shape, same-fields, same-text, same-variable, among, has-field, sign-ok, operator-ok, owned, owned-simple, all-owned, formals-owned, allowed, is-shape, name-ok, open-here, address, expr-ok, designator-ok, actuals-ok, stmt-ok, arms-ok, parts-ok, procedure-ok, function-ok, bodies-ok, nested, dealt, well-formed}
 use Rattle.program.specs.Theorems.{Decided}
 use Rattle.program.proofs.Dealing.{none-some, some-inj}
@@ -366,6 +366,6 @@ is-true false h = absurd h
 pub decided : Decided
 unfolding well-formed
 decided P =
-    let d = three (nested 0 (P .modules)) (dealt 0 (P .variables)) (bodies-ok P (P .bodies))
-    (nested-is 0 (P .modules)) (dealt-is 0 (P .variables)) (bodies-is P (P .bodies)) in
+    let d = five (nested 0 (P .modules)) (dealt 0 (P .variables)) (bodies-ok P (P .bodies)) (few-cells P) (sane-variables (P .variables))
+    (nested-is 0 (P .modules)) (dealt-is 0 (P .variables)) (bodies-is P (P .bodies)) (itself (few-cells P)) (itself (sane-variables (P .variables))) in
     (λ e. d .0 (subst T (sym e) tt), λ w. is-true (well-formed P) (d .1 w))

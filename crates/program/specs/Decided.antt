@@ -10,7 +10,7 @@ use Rattle.program.specs.Types.{Simple, Writing, Shape, Fields, size, fits}
 use Rattle.program.specs.Types.Simple.{integer, boolean, char, enumeration}
 use Rattle.program.specs.Types.Shape.{simple, array, record-of}
 use Rattle.program.specs.Types.Fields.{no-field, field-and}
-use Rattle.program.specs.Trees.{At, Variable, Sign, Operator, Junction, Name, Formal, Expr, Designator, Actuals, Stmt, Arms, Parts, Procedure, Function, Program}
+use Rattle.program.specs.Trees.{At, Variable, Sign, Operator, Name, Formal, Expr, Designator, Actuals, Stmt, Arms, Parts, Procedure, Function, Program}
 use Rattle.program.specs.Trees.Sign.{plus-sign, minus-sign, not-sign}
 use Rattle.program.specs.Trees.Operator.{plus, minus, times, over, div, modulo, xor, eq, ne, lt, le, gt, ge}
 use Rattle.program.specs.Trees.Name.{own, formal}
@@ -24,7 +24,7 @@ use Rattle.program.specs.Trees.Parts.{ends, exits}
 use Rattle.program.specs.Trees.Procedure.{procedure}
 use Rattle.program.specs.Trees.Function.{function}
 use Rattle.program.specs.Cells.{part-of}
-use Rattle.program.specs.WellFormed.{last-first, var-shapes, formals-of, function-formals}
+use Rattle.program.specs.WellFormed.{last-first, var-shapes, formals-of, function-formals, few-cells, sane-variables}
 
 abbrev pub same-simple : Simple → Simple → Bool
 same-simple integer integer = true
@@ -209,4 +209,5 @@ dealt b [] = true
 dealt b (x ∷ xs) = eqb (x .cell) b && dealt (b + size (x .shape)) xs
 
 unfoldable pub well-formed : Program → Bool
-well-formed P = nested 0 (P .modules) && (dealt 0 (P .variables) && bodies-ok P (P .bodies))
+well-formed P =
+    nested 0 (P .modules) && (dealt 0 (P .variables) && (bodies-ok P (P .bodies) && (few-cells P && sane-variables (P .variables))))

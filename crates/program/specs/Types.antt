@@ -1,7 +1,7 @@
 -- The types of a resolved program. An array, a record or an enumeration is known by the number of its writing: two types are the same
 -- if they come from one writing.
 use Prim.Native.Nat.{ℕ, _+_, _*_, suc}
-use mathlib.Core.Bool.{Bool, _&&_}
+use mathlib.Core.Bool.{Bool, true, _&&_}
 use mathlib.Core.Path.{_≡_}
 use mathlib.Core.Logic.{_⊎_}
 use lib.IntN.{ℤ, pos, natAbs, _-ℤ_}
@@ -39,6 +39,17 @@ abbrev mutual
   pub sizes : Fields → ℕ
   sizes no-field = 0
   sizes (field-and s fs) = size s + sizes fs
+
+-- in every array the low bound is not above the high one
+abbrev mutual
+  pub sane : Shape → Bool
+  sane (simple t) = true
+  sane (array w low high s) = leZ low high && sane s
+  sane (record-of w fs) = sane-fields fs
+
+  pub sane-fields : Fields → Bool
+  sane-fields no-field = true
+  sane-fields (field-and s fs) = sane s && sane-fields fs
 
 abbrev pub within : ℤ → ℤ → ℤ → Bool
 within low high v = leZ low v && leZ v high

@@ -1,18 +1,17 @@
 -- What the checker guarantees of a program.
 use Prim.{⊥}
 use Prim.Native.Nat.{ℕ, suc}
-use mathlib.Core.Bool.{_||_}
+use mathlib.Core.Bool.{Bool, true, _&&_, _||_}
 use mathlib.Core.Path.{_≡_}
 use mathlib.Core.Logic.{_⊎_}
 use mathlib.Core.List.{List, [], _∷_, reverseAux}
 use mathlib.Core.Option.{Option, none, some}
-use lib.ListN.{getElem?}
-use lib.IntN.{ℤ}
+use lib.ListN.{length, getElem?}
 use lib.Dec.{T, leb, eqb}
-use Rattle.program.specs.Types.{Simple, Writing, Shape, Fields, Field, fits}
+use Rattle.program.specs.Types.{Simple, Writing, Shape, Field, fits, sane}
 use Rattle.program.specs.Types.Simple.{integer, boolean}
 use Rattle.program.specs.Types.Shape.{simple, array, record-of}
-use Rattle.program.specs.Trees.{At, Variable, Sign, Operator, Junction, Name, Formal, Expr, Designator, Actuals, Stmt, Arms, Parts, Procedure, Function, Program}
+use Rattle.program.specs.Trees.{At, Variable, Sign, Operator, Name, Formal, Expr, Designator, Actuals, Stmt, Arms, Parts, Procedure, Function, Program}
 use Rattle.program.specs.Trees.Sign.{plus-sign, minus-sign, not-sign}
 use Rattle.program.specs.Trees.Operator.{plus, minus, times, over, div, modulo, xor, eq, ne, lt, le, gt, ge}
 use Rattle.program.specs.Trees.Name.{own, formal}
@@ -25,7 +24,7 @@ use Rattle.program.specs.Trees.Arms.{otherwise, arm}
 use Rattle.program.specs.Trees.Parts.{ends, exits}
 use Rattle.program.specs.Trees.Procedure.{procedure}
 use Rattle.program.specs.Trees.Function.{function}
-use Rattle.program.specs.Cells.{Dealt, part-of}
+use Rattle.program.specs.Cells.{Dealt, part-of, table}
 
 abbrev pub Among : Variable → List Variable → Type 0
 Among x [] = ⊥
@@ -169,7 +168,16 @@ abbrev pub Nested : ℕ → List ℕ → Type 0
 Nested n [] = Unit {0}
 Nested n (m ∷ ms) = T (leb (suc m) n || eqb n 0) × Nested (suc n) ms
 
+abbrev pub sane-variables : List Variable → Bool
+sane-variables [] = true
+sane-variables (x ∷ xs) = sane (x .shape) && sane-variables xs
+
+-- a program has at most 2048 cells
+abbrev pub few-cells : Program → Bool
+few-cells P = leb (length (table P)) 2048
+
 -- The program's modules are nested, its cells dealt in text order without overlap, and its bodies follow the rules of types, of changes
--- and of closed arrays and records.
+-- and of closed arrays and records; its cells are not too many, and its array bounds in order.
 abbrev pub Well-formed : Program → Type 0
-Well-formed P = Nested 0 (P .modules) × Dealt 0 (P .variables) × ok-bodies P (P .bodies)
+Well-formed P =
+    Nested 0 (P .modules) × Dealt 0 (P .variables) × ok-bodies P (P .bodies) × T (few-cells P) × T (sane-variables (P .variables))

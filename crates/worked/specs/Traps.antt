@@ -1,37 +1,27 @@
 -- Worked examples: traps, and where arrays are opened. Each program has the places of its text.
-use Prim.Native.Nat.{ℕ, zero, suc}
 use mathlib.Core.Path.{_≡_}
 use mathlib.Core.Bool.{true}
-use mathlib.Core.List.{List, [], _∷_}
-use lib.IntN.{ℤ, pos, negsuc}
+use mathlib.Core.List.{[], _∷_}
+use lib.IntN.{pos, negsuc}
 use lib.Chars.{codes}
-use Rattle.fault.specs.declared.Trap.{Trap}
-use Rattle.std.specs.declared.result.Result.{Result}
-use Rattle.std.specs.declared.result.Result.the-variants.{Ok, Err}
-use Rattle.fault.specs.declared.Trap.the-variants.{Index, Divisor, Beyond, Depth, Foreign}
-use Rattle.program.specs.Types.{Simple, Writing, Shape, Fields}
-use Rattle.program.specs.Trees.{At, Variable, Sign, Operator, Junction, Name, Formal, Expr, Designator, Actuals, Stmt, Arms, Parts, Procedure, Function, Program}
+use Rattle.fault.specs.declared.Trap.the-variants.{Index, Divisor, Beyond}
+use Rattle.program.specs.Trees.{Variable, Procedure, Program}
 use Rattle.program.specs.Types.Simple.{integer, boolean, char, enumeration}
 use Rattle.program.specs.Types.Shape.{simple, array, record-of}
 use Rattle.program.specs.Types.Fields.{no-field, field-and}
-use Rattle.program.specs.Trees.Sign.{plus-sign, minus-sign, not-sign}
-use Rattle.program.specs.Trees.Operator.{plus, minus, times, over, div, modulo, xor, eq, ne, lt, le, gt, ge}
-use Rattle.program.specs.Trees.Junction.{and, or}
-use Rattle.program.specs.Trees.Name.{own, formal}
-use Rattle.program.specs.Trees.Formal.{by-const, by-var}
-use Rattle.program.specs.Trees.Expr.{constant, value, register, unary, binary, junction, apply}
+use Rattle.program.specs.Trees.Sign.{minus-sign}
+use Rattle.program.specs.Trees.Operator.{plus, minus, times, over, div, modulo, eq}
+use Rattle.program.specs.Trees.Name.{own}
+use Rattle.program.specs.Trees.Expr.{constant, value, unary, binary}
 use Rattle.program.specs.Trees.Designator.{whole, element, part}
-use Rattle.program.specs.Trees.Actuals.{no-more, a-value, a-variable}
-use Rattle.program.specs.Trees.Stmt.{skip, seq, assign, offer, if, while, repeat, loop, call}
-use Rattle.program.specs.Trees.Arms.{otherwise, arm}
-use Rattle.program.specs.Trees.Parts.{ends, exits}
+use Rattle.program.specs.Trees.Actuals.{no-more}
+use Rattle.program.specs.Trees.Stmt.{skip, seq, assign, call}
 use Rattle.program.specs.Trees.Procedure.{procedure}
-use Rattle.program.specs.Trees.Function.{function}
 use Rattle.program.specs.Decided.{well-formed}
-use Rattle.meaning.specs.Actions.State.{ready, finished, trapped, awaiting, offering}
+use Rattle.meaning.specs.Actions.State.{finished, trapped}
 use Rattle.meaning.specs.Running.{tells, line-of, at, variable, writing}
-use Rattle.meaning.specs.Running.Kind.{take, index, op, test, store, entry, leave, turn}
-use Rattle.meaning.specs.Running.Beside.{nobody, somebody}
+use Rattle.meaning.specs.Running.Kind.{take, index, op, store, entry, leave}
+use Rattle.meaning.specs.Running.Beside.{nobody}
 
 -- module m; var a, b: integer; begin a := (-2147483647) div 2; b := (-7) mod 2 end m.
 abbrev divisions-1-a : Variable
