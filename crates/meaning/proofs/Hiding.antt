@@ -114,41 +114,41 @@ module _ (P : Program) (dealt : Dealt 0 (P .variables)) where
   by-name o m direct c v n = inl n
   by-name o m onward c v n = inr (store-onward, n)
 
-  written-only : (o : List Open) (m : ℕ) (a : Action) → law P o m a → (σ : Cells) → Only P (May o m a) σ (written a σ)
-  written-only o m (a-constant v) l σ = only-none P _ σ
-  written-only o m (a-take d t) l σ = only-none P _ σ
-  written-only o m (a-read a t) l σ = only-none P _ σ
-  written-only o m (an-index base w low high s v) l σ = only-none P _ σ
-  written-only o m (a-sign g v) l σ = only-none P _ σ
-  written-only o m (an-operator p x y) l σ = only-none P _ σ
-  written-only o m (a-decision j v) l σ = only-none P _ σ
-  written-only o m (a-test v) l σ = only-none P _ σ
-  written-only o m a-turn l σ = only-none P _ σ
-  written-only o m (a-store w c v) l σ = only-set P (May o m (a-store w c v)) σ c v (by-name o m w c v (l .3)) _ (l .1 .1)
-  written-only o m (a-write a v) l σ = only-none P _ σ
-  written-only o m (an-entry n fs zs is) l σ =
+  written-only : (o : List Open) (m d : ℕ) (a : Action) → law P o m d a → (σ : Cells) → Only P (May o m a) σ (written a σ)
+  written-only o m d (a-constant v) l σ = only-none P _ σ
+  written-only o m d (a-take c t) l σ = only-none P _ σ
+  written-only o m d (a-read a t) l σ = only-none P _ σ
+  written-only o m d (an-index base w low high s v) l σ = only-none P _ σ
+  written-only o m d (a-sign g v) l σ = only-none P _ σ
+  written-only o m d (an-operator p x y) l σ = only-none P _ σ
+  written-only o m d (a-decision j v) l σ = only-none P _ σ
+  written-only o m d (a-test v) l σ = only-none P _ σ
+  written-only o m d a-turn l σ = only-none P _ σ
+  written-only o m d (a-store w c v) l σ = only-set P (May o m (a-store w c v)) σ c v (by-name o m w c v (l .3)) _ (l .1 .1)
+  written-only o m d (a-write a v) l σ = only-none P _ σ
+  written-only o m d (an-entry n fs zs is) l σ =
       only-weaker (Mine P m) _ σ _ (λ c h. inl h)
       (only-then P (Mine P m) σ (zeroed zs σ) _ (zeroed-only m zs (l .2) σ) (placed-only m fs is (l .1) (zeroed zs σ)))
-  written-only o m a-leave l σ = only-none P _ σ
-  written-only o m (a-leave-with r t) l σ = only-none P _ σ
+  written-only o m d a-leave l σ = only-none P _ σ
+  written-only o m d (a-leave-with r t) l σ = only-none P _ σ
 
-  left-only : (o : List Open) (m : ℕ) (a : Action) → law P o m a → (r : Result ℤ Trap) (σ : Cells) → Only P (May o m a) σ (left a r σ)
-  left-only o m a l (Ok v) σ = written-only o m a l σ
-  left-only o m a l (Err t) σ = only-none P _ σ
+  left-only : (o : List Open) (m d : ℕ) (a : Action) → law P o m d a → (r : Result ℤ Trap) (σ : Cells) → Only P (May o m a) σ (left a r σ)
+  left-only o m d a l (Ok v) σ = written-only o m d a l σ
+  left-only o m d a l (Err t) σ = only-none P _ σ
 
-  minds : (o : List Open) (at : At) (a : Action) → law P o (at .inside) a → (r : Result ℤ Trap) (σ : Cells) → Minds P o at a r σ
-  minds o at a l r σ =
-      let w = left-only o (at .inside) a l r σ in
+  minds : (o : List Open) (at : At) (d : ℕ) (a : Action) → law P o (at .inside) d a → (r : Result ℤ Trap) (σ : Cells) → Minds P o at a r σ
+  minds o at d a l r σ =
+      let w = left-only o (at .inside) d a l r σ in
       record {
         changes = λ c n. elim (w .0 c) [ inl x ↦ x | inr e ↦ absurd (n e) ];
         count = w .1;
         beyond = w .2;
-        opens = λ base u low high s v e. subst (law P o (at .inside)) e l;
+        opens = λ base u low high s v e. (subst (law P o (at .inside) d) e l) .0;
       }
 
   hides : (o : List Open) (l : List Line) → Lawful P o l → Hides P o l
   hides o [] g = tt
-  hides o (did at d a σ r ∷ l) g = (minds o at a (g .1) r σ, hides (opened o a) l (g .2))
+  hides o (did at d a σ r ∷ l) g = (minds o at d a (g .1) r σ, hides (opened o a) l (g .2))
   hides o (was-given a t v ∷ l) g = hides o l g
 
 pub modules-hide : Modules-hide

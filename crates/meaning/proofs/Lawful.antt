@@ -1,16 +1,16 @@
 -- Each action of a well-formed program is lawful: it takes a cell as of its type, stores what fits, names what it may name and opens what
 -- it may open. All laws of runs follow from this one induction.
 use Prim.{Unit, tt, ⊥, absurd}
-use Prim.Native.Nat.{ℕ, zero, suc, _+_}
+use Prim.Native.Nat.{ℕ, zero, suc, _+_, _≤_}
 use native.Mathlib.Omega.{arith}
 use mathlib.Core.Path.{_≡_, refl, sym, ap, subst}
 use mathlib.Core.Logic.{inl, inr}
-use mathlib.Core.Bool.{Bool, true, false}
+use mathlib.Core.Bool.{Bool, true, false, cond}
 use mathlib.Core.List.{List, [], _∷_, reverseAux}
 use mathlib.Core.Option.{Option, none, some}
 use lib.ListN.{length, getD, getElem?}
 use lib.IntN.{ℤ, pos, natAbs}
-use lib.Dec.{T, leb}
+use lib.Dec.{T, leb, leb→le}
 use Rattle.fault.specs.declared.Trap.{Trap}
 use Rattle.std.specs.declared.result.Result.{Result}
 use Rattle.std.specs.declared.result.Result.the-variants.{Ok, Err}
@@ -43,16 +43,16 @@ use Rattle.meaning.specs.Meaning.{M, Done, act, await, deliver, goes-on, if-fi
 use Rattle.meaning.specs.Hiding.{Open, opened, Lent-by, Lent}
 use Rattle.meaning.proofs.Operators.{Fits, as-type, ok-inj, ok-err, operator-fits, sign-fits, index-ok}
 
--- what comes of an action that does not trap
-pub outcome-ok : (d : ℕ) (a : Action) (σ : Cells) (v : ℤ) → Ok v ≡ outcome d a σ → (gives a σ ≡ Ok v) × T (finds a σ)
+-- what comes of an action that does not trap: it gives a value, finds its cell as it should be, and is not too deep
+pub outcome-ok : (d : ℕ) (a : Action) (σ : Cells) (v : ℤ) → Ok v ≡ outcome d a σ → (gives a σ ≡ Ok v) × T (finds a σ) × (d ≤ deepest)
 unfolding outcome
-outcome-ok d a σ v e = go (gives a σ) (leb d deepest) (finds a σ) e
+outcome-ok d a σ v e = go (gives a σ) (leb d deepest) (finds a σ) (λ t. t) e
   where
-    go : (r : Result ℤ Trap) (b f : Bool) → Ok v ≡ first-trap r b f → (r ≡ Ok v) × T f
-    go (Err t) b f e = absurd (ok-err e)
-    go (Ok w) false f e = absurd (ok-err e)
-    go (Ok w) true false e = absurd (ok-err e)
-    go (Ok w) true true e = (sym e, tt)
+    go : (r : Result ℤ Trap) (b f : Bool) → (T b → T (leb d deepest)) → Ok v ≡ first-trap r b f → (r ≡ Ok v) × T f × (d ≤ deepest)
+    go (Err t) b f k e = absurd (ok-err e)
+    go (Ok w) false f k e = absurd (ok-err e)
+    go (Ok w) true false k e = absurd (ok-err e)
+    go (Ok w) true true k e = (sym e, tt, leb→le d deepest (k tt))
 
 -- parts
 mutual
@@ -73,6 +73,11 @@ field-each X b (field-and u fs) o s (inl e) p =
 field-each X b (field-and u fs) o s (inr e) p =
     let z : b + o ≡ (b + size u) + e .0 = omega (arith, e .1) in
     subst (λ c. Each X c s) (sym z) (field-each X (b + size u) fs (e .0) s (e .2) (p .1))
+
+-- a decision, and an index, leave at most the depth that there was
+decision-low : (d : ℕ) (b : Bool) → suc d ≤ deepest → cond b d (suc d) ≤ deepest
+decision-low d true h = omega arith
+decision-low d false h = h
 
 formals-turned : (P : Program) (m : ℕ) (fs gs : List Formal) → Formals-owned P m fs → Formals-owned P m gs → Formals-owned P m (reverseAux fs gs)
 formals-turned P m [] gs h g = g
@@ -104,38 +109,38 @@ module _ (P : Program) where
   Match o m (ref b w ∷ is) (by-const x t ∷ fs) = ⊥
   Match o m (ref b w ∷ is) (by-var s ∷ fs) = Place o (some m) w s b × Match o m is fs
 
-  -- what an action in the module m does is lawful under these open calls
-  abbrev pub law : List Open → ℕ → Action → Type 0
-  law o m (a-constant v) = Unit {0}
-  law o m (a-take c t) = Is c t
-  law o m (a-read a t) = Unit {0}
-  law o m (an-index base w low high s v) = T (part-of P m (w .inside))
-  law o m (a-sign g v) = (t : Simple) × ok-sign g t × Fits t v
-  law o m (an-operator p x y) = (u : Simple) × (t : Simple) × ok-operator p u t × Fits u x × Fits u y
-  law o m (a-decision j v) = Unit {0}
-  law o m (a-test v) = Unit {0}
-  law o m a-turn = Unit {0}
-  law o m (a-store w c v) = (t : Simple) × Is c t × Fits t v × Named o (some m) w c
-  law o m (a-write a v) = Unit {0}
-  law o m (an-entry n fs zs is) = Match o n is fs × Formals-owned P m fs × All-owned P m zs
-  law o m a-leave = Unit {0}
-  law o m (a-leave-with r t) = Is r t
+  -- What an action in the module m does is lawful under these open calls. All but takes, turns and entries leave a depth that was reached before.
+  abbrev pub law : List Open → ℕ → ℕ → Action → Type 0
+  law o m d (a-constant v) = Unit {0}
+  law o m d (a-take c t) = Is c t
+  law o m d (a-read a t) = Unit {0}
+  law o m d (an-index base w low high s v) = T (part-of P m (w .inside)) × (d ≤ deepest)
+  law o m d (a-sign g v) = (t : Simple) × ok-sign g t × Fits t v × (d ≤ deepest)
+  law o m d (an-operator p x y) = (u : Simple) × (t : Simple) × ok-operator p u t × Fits u x × Fits u y × (d ≤ deepest)
+  law o m d (a-decision j v) = d ≤ deepest
+  law o m d (a-test v) = d ≤ deepest
+  law o m d a-turn = Unit {0}
+  law o m d (a-store w c v) = (t : Simple) × Is c t × Fits t v × Named o (some m) w c × (d ≤ deepest)
+  law o m d (a-write a v) = d ≤ deepest
+  law o m d (an-entry n fs zs is) = Match o n is fs × Formals-owned P m fs × All-owned P m zs
+  law o m d a-leave = d ≤ deepest
+  law o m d (a-leave-with r t) = Is r t × (d ≤ deepest)
 
   abbrev pub Lawful : List Open → List Line → Type 0
   Lawful o [] = Unit {0}
-  Lawful o (did at d a σ r ∷ l) = (r ≡ outcome d a σ) × law o (at .inside) a × Lawful (opened o a) l
+  Lawful o (did at d a σ r ∷ l) = (r ≡ outcome d a σ) × law o (at .inside) d a × Lawful (opened o a) l
   Lawful o (was-given a t v ∷ l) = Lawful o l
 
   abbrev pub Good : List Open → Behaviour → Type 0
   Good o X = (es : List Event) → Lawful o (X es .log)
 
-  done-good : (o : List Open) (at : At) (d : ℕ) (a : Action) (σ : Cells) (k : ℤ → Run) → law o (at .inside) a
+  done-good : (o : List Open) (at : At) (d : ℕ) (a : Action) (σ : Cells) (k : ℤ → Run) → law o (at .inside) d a
       → ((v : ℤ) → Ok v ≡ outcome d a σ → Lawful (opened o a) (k v .log))
       → (r : Result ℤ Trap) → r ≡ outcome d a σ → Lawful o (goes-on at d a σ k r .log)
   done-good o at d a σ k h g (Ok v) e = (e, h, g v e)
   done-good o at d a σ k h g (Err t) e = (e, h, tt)
 
-  act-good : (o : List Open) (at : At) (d : ℕ) (a : Action) (k : ℤ → Behaviour) → law o (at .inside) a
+  act-good : (o : List Open) (at : At) (d : ℕ) (a : Action) (k : ℤ → Behaviour) → law o (at .inside) d a
       → ((σ : Cells) (v : ℤ) → Ok v ≡ outcome d a σ → Good (opened o a) (k v)) → Good o (act at d a k)
   unfolding act
   act-good o at d a k h g [] = tt
@@ -231,23 +236,23 @@ module _ (P : Program) where
 
     mutual
       eval-safe : (o : List Open) (f : List Shape) (ls : List ℕ) → Stands o f ls
-          → (d : ℕ) (e : Expr) (t : Simple) → ok-expr P f e t → Safe o (Fits t) (eval ls d e)
+          → (d : ℕ) (e : Expr) (t : Simple) → ok-expr P f e t → Safe o (λ v. Fits t v × (suc d ≤ deepest)) (eval ls d e)
       eval-safe o f ls st d (constant at v) t h k g =
-          act-good o at _ _ k tt λ σ w e. g w (subst (Fits t) (ok-inj (outcome-ok _ _ σ w e .0)) h)
+          act-good o at _ _ k tt λ σ w e. let r = outcome-ok _ _ σ w e in g w (subst (Fits t) (ok-inj (r .0)) h, r .2)
       eval-safe o f ls st d (value at u x) t h k g =
           locate-safe true o f ls st d none x (simple t) (h .1) _ λ c p. act-good o at _ _ k (subst (Is c) (sym (h .0)) (p .0)) λ σ v e.
-          let r = outcome-ok _ _ σ v e in g v (subst (Fits t) (ok-inj (r .0)) (as-type (getD σ c (pos 0)) (sym (h .0)) (r .1)))
+          let r = outcome-ok _ _ σ v e in g v (subst (Fits t) (ok-inj (r .0)) (as-type (getD σ c (pos 0)) (sym (h .0)) (r .1)), r .2)
       eval-safe o f ls st d (register at u a) t h k g =
-          act-good o at _ _ _ tt λ _ _ _. await-good o a u k λ v p. g v (as-type v (sym (h .0)) p)
+          act-good o at _ _ _ tt λ σ w e. await-good o a u k λ v p. g v (as-type v (sym (h .0)) p, outcome-ok _ _ σ w e .2)
       eval-safe o f ls st d (unary at s e) t h k g =
-          eval-safe o f ls st d e t (h .1) _ λ v fv. act-good o at _ _ k (t, h .0, fv) λ σ w q.
-          g w (sign-fits s t v w (h .0) fv (outcome-ok _ _ σ w q .0))
+          eval-safe o f ls st d e t (h .1) _ λ v p. act-good o at _ _ k (t, h .0, p .0, p .1) λ σ w q.
+          g w (sign-fits s t v w (h .0) (p .0) (outcome-ok _ _ σ w q .0), p .1)
       eval-safe o f ls st d (binary at p u a b) t h k g =
-          eval-safe o f ls st d a u (h .1) _ λ x fx. eval-safe o f ls st (suc d) b u (h .2) _ λ y fy.
-          act-good o at _ _ k (u, t, h .0, fx, fy) λ σ v e. g v (operator-fits p u t x y v (h .0) fx fy (outcome-ok _ _ σ v e .0))
+          eval-safe o f ls st d a u (h .1) _ λ x px. eval-safe o f ls st (suc d) b u (h .2) _ λ y py.
+          act-good o at _ _ k (u, t, h .0, px .0, py .0, px .1) λ σ v e. g v (operator-fits p u t x y v (h .0) (px .0) (py .0) (outcome-ok _ _ σ v e .0), px .1)
       eval-safe o f ls st d (junction at j a b) t h k g =
-          eval-safe o f ls st d a boolean (h .1) _ λ x fx. act-good o at _ _ _ tt λ _ _ _.
-          choose-good o (needed j x) _ _ k (eval-safe o f ls st d b boolean (h .2) k (λ v fv. g v (as-type v (h .0) fv))) (g x (as-type x (h .0) fx))
+          eval-safe o f ls st d a boolean (h .1) _ λ x p. act-good o at _ _ _ (decision-low d (needed j x) (p .1)) λ _ _ _.
+          choose-good o (needed j x) _ _ k (eval-safe o f ls st d b boolean (h .2) k (λ v q. g v (as-type v (h .0) (q .0), q .1))) (g x (as-type x (h .0) (p .0), p .1))
       eval-safe o f ls st d (apply at p xs) t h k g =
           actuals-safe o f ls st d (at .inside) xs [] (function-formals p) [] tt (h .1) _ λ is q. applied-safe o p d at is t (h .0) q k g
 
@@ -255,8 +260,8 @@ module _ (P : Program) where
           → (d : ℕ) (who : Option ℕ) (x : Designator) (s : Shape) → ok-designator P f who x s → Safe o (Place o who (way x) s) (locate taken ls d x)
       locate-safe taken o f ls st d who (whole n) s h k g = g _ (name-place o f ls st who n s h)
       locate-safe taken o f ls st d who (element at x w low high u e) s h k g =
-          locate-safe false o f ls st d who x (array w low high s) (h .2) _ λ base p. eval-safe o f ls st (suc d) e integer (h .3) _ λ v _.
-          act-good o at _ _ _ (h .1) λ σ c q.
+          locate-safe false o f ls st d who x (array w low high s) (h .2) _ λ base p. eval-safe o f ls st (suc d) e integer (h .3) _ λ v b.
+          act-good o at _ _ _ (h .1, decision-low d taken (omega (arith, b .1))) λ σ c q.
           let r = index-ok base low high u v c (outcome-ok _ _ σ c q .0) in
           g (natAbs c) (subst (Place o who (way x) s) (ap natAbs (r .1)) (subst (λ u. Place o who (way x) s (element-cell base low u v)) (sym (h .0)) (p v (r .0))))
       locate-safe taken o f ls st d who (part at x w fs n) s h k g =
@@ -269,7 +274,7 @@ module _ (P : Program) where
       actuals-safe o f ls st d m no-more is (b ∷ fs) ds q h k g = absurd h
       actuals-safe o f ls st d m (a-value e xs) is [] ds q h k g = absurd h
       actuals-safe o f ls st d m (a-value e xs) is (by-const x t ∷ fs) ds q h k g =
-          eval-safe o f ls st d e t (h .0) _ λ v fv. actuals-safe o f ls st (suc d) m xs (val v ∷ is) fs (by-const x t ∷ ds) (fv, q) (h .1) k g
+          eval-safe o f ls st d e t (h .0) _ λ v p. actuals-safe o f ls st (suc d) m xs (val v ∷ is) fs (by-const x t ∷ ds) (p .0, q) (h .1) k g
       actuals-safe o f ls st d m (a-value e xs) is (by-var s ∷ fs) ds q h k g = absurd h
       actuals-safe o f ls st d m (a-variable x xs) is [] ds q h k g = absurd h
       actuals-safe o f ls st d m (a-variable x xs) is (by-const y t ∷ fs) ds q h k g = absurd h
@@ -281,17 +286,17 @@ module _ (P : Program) where
       exec-safe o f ls st d skip h k g = g tt tt
       exec-safe o f ls st d (seq a b) h k g = exec-safe o f ls st d a (h .0) _ λ _ _. exec-safe o f ls st d b (h .1) k g
       exec-safe o f ls st d (assign at t x e) h k g =
-          locate-safe false o f ls st d (some (at .inside)) x (simple t) (h .0) _ λ c p. eval-safe o f ls st (suc d) e t (h .1) _ λ v fv.
-          act-good o at _ _ _ (t, p .0, fv, p .1) λ _ _ _. g tt tt
+          locate-safe false o f ls st d (some (at .inside)) x (simple t) (h .0) _ λ c p. eval-safe o f ls st (suc d) e t (h .1) _ λ v b.
+          act-good o at _ _ _ (t, p .0, b .0, p .1, omega (arith, b .1)) λ _ _ _. g tt tt
       exec-safe o f ls st d (offer at t a e) h k g =
-          eval-safe o f ls st (suc d) e t (h .1) _ λ v fv. act-good o at _ _ _ tt λ _ _ _. deliver-good o a v k g
+          eval-safe o f ls st (suc d) e t (h .1) _ λ v b. act-good o at _ _ _ (omega (arith, b .1)) λ _ _ _. deliver-good o a v k g
       exec-safe o f ls st d (if xs) h k g = arms-safe o f ls st (suc d) xs h k g
       exec-safe o f ls st d (while at q e s) h k g =
-          again-good o _ k λ X gX. act-good o at _ _ _ tt λ _ _ _. eval-safe o f ls st (suc d) e boolean (h .0) _ λ v fv.
-          act-good o q _ _ _ tt λ _ _ _. choose-good o (truth v) _ _ k (exec-safe o f ls st (suc d) s (h .1) _ λ _ _. gX) (g tt tt)
+          again-good o _ k λ X gX. act-good o at _ _ _ tt λ _ _ _. eval-safe o f ls st (suc d) e boolean (h .0) _ λ v b.
+          act-good o q _ _ _ (omega (arith, b .1)) λ _ _ _. choose-good o (truth v) _ _ k (exec-safe o f ls st (suc d) s (h .1) _ λ _ _. gX) (g tt tt)
       exec-safe o f ls st d (repeat at s q e) h k g =
           again-good o _ k λ X gX. act-good o at _ _ _ tt λ _ _ _. exec-safe o f ls st (suc d) s (h .0) _ λ _ _.
-          eval-safe o f ls st (suc d) e boolean (h .1) _ λ v fv. act-good o q _ _ _ tt λ _ _ _. choose-good o (truth v) _ _ k (g tt tt) gX
+          eval-safe o f ls st (suc d) e boolean (h .1) _ λ v b. act-good o q _ _ _ (omega (arith, b .1)) λ _ _ _. choose-good o (truth v) _ _ k (g tt tt) gX
       exec-safe o f ls st d (loop at b) h k g =
           again-good o _ k λ X gX. act-good o at _ _ _ tt λ _ _ _. turn-safe o f ls st (suc d) b h X gX k g
       exec-safe o f ls st d (call at p xs) h k g =
@@ -301,29 +306,31 @@ module _ (P : Program) where
           → (d : ℕ) (xs : Arms) → ok-arms P f xs → Safe o (λ _. Unit {0}) (arms ls d xs)
       arms-safe o f ls st d (otherwise s) h k g = exec-safe o f ls st d s h k g
       arms-safe o f ls st d (arm at e s xs) h k g =
-          eval-safe o f ls st d e boolean (h .0) _ λ v fv. act-good o at _ _ _ tt λ _ _ _.
+          eval-safe o f ls st d e boolean (h .0) _ λ v b. act-good o at _ _ _ (omega (arith, b .1)) λ _ _ _.
           choose-good o (truth v) _ _ k (exec-safe o f ls st d s (h .1) k g) (arms-safe o f ls st d xs (h .2) k g)
 
       turn-safe : (o : List Open) (f : List Shape) (ls : List ℕ) → Stands o f ls
           → (d : ℕ) (b : Parts) → ok-parts P f b → (X : Behaviour) → Good o X → Safe o (λ _. Unit {0}) (turn ls d b (λ _. X))
       turn-safe o f ls st d (ends s) h X gX k g = exec-safe o f ls st d s h _ λ _ _. gX
       turn-safe o f ls st d (exits s at e s′ b) h X gX k g =
-          exec-safe o f ls st d s (h .0) _ λ _ _. eval-safe o f ls st d e boolean (h .1) _ λ v fv. act-good o at _ _ _ tt λ _ _ _.
+          exec-safe o f ls st d s (h .0) _ λ _ _. eval-safe o f ls st d e boolean (h .1) _ λ v c. act-good o at _ _ _ (omega (arith, c .1)) λ _ _ _.
           choose-good o (truth v) _ _ k (exec-safe o f ls st d s′ (h .2) k g) (turn-safe o f ls st d b (h .3) X gX k g)
 
       applied-safe : (o : List Open) (p : Function) (d : ℕ) (at : At) (is : List Item) (t : Simple)
-          → ok-function P p t → Match o (at .inside) is (last-first (function-formals p)) → Safe o (Fits t) (applied p d at is)
+          → ok-function P p t → Match o (at .inside) is (last-first (function-formals p)) → Safe o (λ v. Fits t v × (suc d ≤ deepest)) (applied p d at is)
       applied-safe o (function m fs r u vs body) d at is t h q k g =
-          act-good o _ _ _ _ (q, formals-turned P m fs [] (h .1) tt, ((h .2 .0, h .2 .1), h .3)) λ _ _ _.
+          act-good o _ _ _ _ (q, formals-turned P m fs [] (h .1) tt, ((h .2 .0, h .2 .1), h .3)) λ ρ x b.
+          let low = outcome-ok _ _ ρ x b .2 in
           exec-safe (opened o (an-entry (at .inside) (last-first fs) (r ∷ vs) is)) (var-shapes (last-first fs)) (lent is)
           (match-lends o (at .inside) is (last-first fs) q) (suc d) body (h .4) _ λ _ _.
-          act-good (opened o (an-entry (at .inside) (last-first fs) (r ∷ vs) is)) _ _ _ k (simple-is m r u (h .2)) λ σ v e.
-          let w = outcome-ok _ _ σ v e in g v (as-type v (sym (h .0)) (subst (Fits u) (ok-inj (w .0)) (w .1)))
+          act-good (opened o (an-entry (at .inside) (last-first fs) (r ∷ vs) is)) _ _ _ k (simple-is m r u (h .2), low) λ σ v e.
+          let w = outcome-ok _ _ σ v e in g v (as-type v (sym (h .0)) (subst (Fits u) (ok-inj (w .0)) (w .1)), low)
 
       called-safe : (o : List Open) (p : Procedure) (d : ℕ) (at : At) (is : List Item)
           → ok-procedure P p → Match o (at .inside) is (last-first (formals-of p)) → Safe o (λ _. Unit {0}) (called p d at is)
       called-safe o (procedure m fs vs body) d at is h q k g =
-          act-good o _ _ _ _ (q, formals-turned P m fs [] (h .0) tt, h .1) λ _ _ _.
+          act-good o _ _ _ _ (q, formals-turned P m fs [] (h .0) tt, h .1) λ ρ x b.
+          let low = outcome-ok _ _ ρ x b .2 in
           exec-safe (opened o (an-entry (at .inside) (last-first fs) vs is)) (var-shapes (last-first fs)) (lent is)
           (match-lends o (at .inside) is (last-first fs) q) (suc d) body (h .2) _ λ _ _.
-          act-good (opened o (an-entry (at .inside) (last-first fs) vs is)) _ _ _ _ tt λ _ _ _. g tt tt
+          act-good (opened o (an-entry (at .inside) (last-first fs) vs is)) _ _ _ _ (omega (arith, low)) λ _ _ _. g tt tt

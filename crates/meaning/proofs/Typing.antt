@@ -28,7 +28,8 @@ use Rattle.meaning.specs.Actions.Action.{a-constant, a-take, a-read, an-index,
 use Rattle.meaning.specs.Actions.Line.{did, was-given}
 use Rattle.meaning.specs.Meaning.{meaning, whole-body}
 use Rattle.meaning.specs.Hiding.{Open, opened}
-use Rattle.meaning.specs.Typing.{Undisturbed, Typed, Causes, Traps-exactly, Stays-typed, Types-kept}
+use Rattle.meaning.specs.Typing.{Undisturbed, Typed, Deepens, Causes, Traps-exactly, Stays-typed, Types-kept}
+use Rattle.meaning.specs.Typing.Deepens.{constant-taken, variable-taken, register-read, turn-begun, call-entered}
 use Rattle.meaning.specs.Typing.Causes.{out-of-bounds, divisor-0, div-below-1, mod-below-1, sum-beyond, difference-beyond, product-beyond, too-deep}
 use Rattle.meaning.proofs.Operators.{Fits, ok-err, err-inj, sign-caused, operator-caused, index-caused, index-traps, beyond-traps, over-traps, div-traps, mod-traps}
 use Rattle.meaning.proofs.Lawful.{Is, law, Lawful, Match, simple-is, exec-safe}
@@ -80,45 +81,45 @@ module _ (P : Program) where
     placed-typed o n m (by-var s ∷ fs) (val v ∷ is) σ q w h = absurd q
     placed-typed o n m (by-var s ∷ fs) (ref b y ∷ is) σ q w h = placed-typed o n m fs is σ (q .1) w h
 
-    written-typed : (o : List Open) (m : ℕ) (a : Action) → law P o m a → (σ : Cells) → Typed P σ → Typed P (written a σ)
-    written-typed o m (a-constant v) l σ h = h
-    written-typed o m (a-take c t) l σ h = h
-    written-typed o m (a-read a t) l σ h = h
-    written-typed o m (an-index base w low high s v) l σ h = h
-    written-typed o m (a-sign g v) l σ h = h
-    written-typed o m (an-operator p x y) l σ h = h
-    written-typed o m (a-decision j v) l σ h = h
-    written-typed o m (a-test v) l σ h = h
-    written-typed o m a-turn l σ h = h
-    written-typed o m (a-store w c v) l σ h = set-typed σ c v h (fits-cell c (l .0) v (l .1) (l .2))
-    written-typed o m (a-write a v) l σ h = h
-    written-typed o m (an-entry n fs zs is) l σ h = placed-typed o n m fs is (zeroed zs σ) (l .0) (l .1) (zeroed-typed zs σ h)
-    written-typed o m a-leave l σ h = h
-    written-typed o m (a-leave-with r t) l σ h = h
+    written-typed : (o : List Open) (m d : ℕ) (a : Action) → law P o m d a → (σ : Cells) → Typed P σ → Typed P (written a σ)
+    written-typed o m d (a-constant v) l σ h = h
+    written-typed o m d (a-take c t) l σ h = h
+    written-typed o m d (a-read a t) l σ h = h
+    written-typed o m d (an-index base w low high s v) l σ h = h
+    written-typed o m d (a-sign g v) l σ h = h
+    written-typed o m d (an-operator p x y) l σ h = h
+    written-typed o m d (a-decision j v) l σ h = h
+    written-typed o m d (a-test v) l σ h = h
+    written-typed o m d a-turn l σ h = h
+    written-typed o m d (a-store w c v) l σ h = set-typed σ c v h (fits-cell c (l .0) v (l .1) (l .2))
+    written-typed o m d (a-write a v) l σ h = h
+    written-typed o m d (an-entry n fs zs is) l σ h = placed-typed o n m fs is (zeroed zs σ) (l .0) (l .1) (zeroed-typed zs σ h)
+    written-typed o m d a-leave l σ h = h
+    written-typed o m d (a-leave-with r t) l σ h = h
 
-    left-typed : (o : List Open) (m : ℕ) (a : Action) → law P o m a → (r : Result ℤ Trap) (σ : Cells) → Typed P σ → Typed P (left a r σ)
-    left-typed o m a l (Ok v) σ h = written-typed o m a l σ h
-    left-typed o m a l (Err t) σ h = h
+    left-typed : (o : List Open) (m d : ℕ) (a : Action) → law P o m d a → (r : Result ℤ Trap) (σ : Cells) → Typed P σ → Typed P (left a r σ)
+    left-typed o m d a l (Ok v) σ h = written-typed o m d a l σ h
+    left-typed o m d a l (Err t) σ h = h
 
   -- cells that hold values of their types are foreign to none
-  finds-typed : (o : List Open) (m : ℕ) (a : Action) → law P o m a → (σ : Cells) → Typed P σ → T (finds a σ)
-  finds-typed o m (a-constant v) l σ h = tt
-  finds-typed o m (a-take c t) l σ h = h c (cell (l .0) t) (l .1)
-  finds-typed o m (a-read a t) l σ h = tt
-  finds-typed o m (an-index base w low high s v) l σ h = tt
-  finds-typed o m (a-sign g v) l σ h = tt
-  finds-typed o m (an-operator p x y) l σ h = tt
-  finds-typed o m (a-decision j v) l σ h = tt
-  finds-typed o m (a-test v) l σ h = tt
-  finds-typed o m a-turn l σ h = tt
-  finds-typed o m (a-store w c v) l σ h = tt
-  finds-typed o m (a-write a v) l σ h = tt
-  finds-typed o m (an-entry n fs zs is) l σ h = tt
-  finds-typed o m a-leave l σ h = tt
-  finds-typed o m (a-leave-with r t) l σ h = h r (cell (l .0) t) (l .1)
+  finds-typed : (o : List Open) (m d : ℕ) (a : Action) → law P o m d a → (σ : Cells) → Typed P σ → T (finds a σ)
+  finds-typed o m d (a-constant v) l σ h = tt
+  finds-typed o m d (a-take c t) l σ h = h c (cell (l .0) t) (l .1)
+  finds-typed o m d (a-read a t) l σ h = tt
+  finds-typed o m d (an-index base w low high s v) l σ h = tt
+  finds-typed o m d (a-sign g v) l σ h = tt
+  finds-typed o m d (an-operator p x y) l σ h = tt
+  finds-typed o m d (a-decision j v) l σ h = tt
+  finds-typed o m d (a-test v) l σ h = tt
+  finds-typed o m d a-turn l σ h = tt
+  finds-typed o m d (a-store w c v) l σ h = tt
+  finds-typed o m d (a-write a v) l σ h = tt
+  finds-typed o m d (an-entry n fs zs is) l σ h = tt
+  finds-typed o m d a-leave l σ h = tt
+  finds-typed o m d (a-leave-with r t) l σ h = h r (cell (l .0 .0) t) (l .0 .1)
 
   -- a trap that lies in what an action does has its cause
-  gives-caused : (o : List Open) (m d : ℕ) (a : Action) → law P o m a → (σ : Cells) (u : Trap) → gives a σ ≡ Err u → Causes u d a
+  gives-caused : (o : List Open) (m d : ℕ) (a : Action) → law P o m d a → (σ : Cells) (u : Trap) → gives a σ ≡ Err u → Causes u d a
   gives-caused o m d (a-constant v) l σ u e = absurd (ok-err e)
   gives-caused o m d (a-take c t) l σ u e = absurd (ok-err e)
   gives-caused o m d (a-read a t) l σ u e = absurd (ok-err e)
@@ -134,6 +135,23 @@ module _ (P : Program) where
   gives-caused o m d a-leave l σ u e = absurd (ok-err e)
   gives-caused o m d (a-leave-with r t) l σ u e = absurd (ok-err e)
 
+  -- what is too deep is a take, a turn or an entry
+  deepens : (o : List Open) (m d : ℕ) (a : Action) → law P o m d a → deepest < d → Deepens a
+  deepens o m d (a-constant v) l h = constant-taken
+  deepens o m d (a-take c t) l h = variable-taken
+  deepens o m d (a-read a t) l h = register-read
+  deepens o m d (an-index base w low high s v) l h = absurd (omega (arith, l .1))
+  deepens o m d (a-sign g v) l h = absurd (omega (arith, l .3))
+  deepens o m d (an-operator p x y) l h = absurd (omega (arith, l .5))
+  deepens o m d (a-decision j v) l h = absurd (omega arith)
+  deepens o m d (a-test v) l h = absurd (omega arith)
+  deepens o m d a-turn l h = turn-begun
+  deepens o m d (a-store w c v) l h = absurd (omega (arith, l .4))
+  deepens o m d (a-write a v) l h = absurd (omega arith)
+  deepens o m d (an-entry n fs zs is) l h = call-entered
+  deepens o m d a-leave l h = absurd (omega arith)
+  deepens o m d (a-leave-with r t) l h = absurd (omega (arith, l .1))
+
 -- no cause has a number above 34
 cause-number : (t : Trap) (d : ℕ) (a : Action) → Causes t d a → trapNumber t ≤ 34
 cause-number t d a (out-of-bounds h) = omega arith
@@ -143,7 +161,7 @@ cause-number t d a (mod-below-1 h) = omega arith
 cause-number t d a (sum-beyond h) = omega arith
 cause-number t d a (difference-beyond h) = omega arith
 cause-number t d a (product-beyond h) = omega arith
-cause-number t d a (too-deep h) = omega arith
+cause-number t d a (too-deep x h) = omega arith
 
 -- a trap in what an action does comes first
 err-first : (d : ℕ) (a : Action) (σ : Cells) (t : Trap) → gives a σ ≡ Err t → outcome d a σ ≡ Err t
@@ -172,25 +190,25 @@ cause-traps t d a (mod-below-1 {x = x} {y = y} h) σ n = (Divisor, err-first d (
 cause-traps t d a (sum-beyond {x = x} {y = y} h) σ n = (Beyond, err-first d (an-operator plus x y) σ Beyond (beyond-traps (x +ℤ y) h), omega arith)
 cause-traps t d a (difference-beyond {x = x} {y = y} h) σ n = (Beyond, err-first d (an-operator minus x y) σ Beyond (beyond-traps (x -ℤ y) h), omega arith)
 cause-traps t d a (product-beyond {x = x} {y = y} h) σ n = (Beyond, err-first d (an-operator times x y) σ Beyond (beyond-traps (x *ℤ y) h), omega arith)
-cause-traps t d a (too-deep h) σ n = deep-traps d a σ h n
+cause-traps t d a (too-deep x h) σ n = deep-traps d a σ h n
 
 -- a trap of an action that finds its cells as they should be has its cause
-outcome-caused : (d : ℕ) (a : Action) (σ : Cells) → T (finds a σ) → ((u : Trap) → gives a σ ≡ Err u → Causes u d a)
+outcome-caused : (d : ℕ) (a : Action) (σ : Cells) → T (finds a σ) → (deepest < d → Deepens a) → ((u : Trap) → gives a σ ≡ Err u → Causes u d a)
     → (t : Trap) → outcome d a σ ≡ Err t → Causes t d a
 unfolding outcome
-outcome-caused d a σ f n t e = go (gives a σ) n (leb d deepest) (λ k. k) (finds a σ) f e
+outcome-caused d a σ f m n t e = go (gives a σ) n (leb d deepest) (λ k. k) (finds a σ) f e
   where
     go : (r : Result ℤ Trap) → ((u : Trap) → r ≡ Err u → Causes u d a) → (b : Bool) → (T (not b) → T (not (leb d deepest)))
         → (c : Bool) → T c → first-trap r b c ≡ Err t → Causes t d a
     go (Err u) n b k c f e = n t e
     go (Ok v) n true k true f e = absurd (ok-err e)
     go (Ok v) n true k false f e = absurd f
-    go (Ok v) n false k c f e = subst (λ t. Causes t d a) (err-inj e) (too-deep (nleb→lt d deepest (k tt)))
+    go (Ok v) n false k c f e = subst (λ t. Causes t d a) (err-inj e) (let l = nleb→lt d deepest (k tt) in too-deep (m l) l)
 
-traps-exactly : (P : Program) (o : List Open) (m : ℕ) (a : Action) → law P o m a → (d : ℕ) (σ : Cells) → Typed P σ → Traps-exactly d a (outcome d a σ)
-traps-exactly P o m a l d σ h =
+traps-exactly : (P : Program) (o : List Open) (m d : ℕ) (a : Action) → law P o m d a → (σ : Cells) → Typed P σ → Traps-exactly d a (outcome d a σ)
+traps-exactly P o m d a l σ h =
     let n = gives-caused P o m d a l σ in
-    let c = outcome-caused d a σ (finds-typed P o m a l σ h) n in
+    let c = outcome-caused d a σ (finds-typed P o m d a l σ h) (deepens P o m d a l) n in
     record {
       caused = c;
       traps = λ t p. cause-traps t d a p σ (λ u e. cause-number u d a (n u e));
@@ -202,8 +220,8 @@ stays-typed : (P : Program) → Dealt 0 (P .variables) → (o : List Open) (l : 
 stays-typed P w o [] g σ h u = h
 stays-typed P w o (did at d a ρ r ∷ l) g σ h u = (
   h,
-  subst (Traps-exactly d a) (sym (g .0)) (traps-exactly P o (at .inside) a (g .1) d ρ (subst (Typed P) (sym (u .0)) h)),
-  stays-typed P w (opened o a) l (g .2) (left a r σ) (left-typed P w o (at .inside) a (g .1) r σ h) (u .1),
+  subst (Traps-exactly d a) (sym (g .0)) (traps-exactly P o (at .inside) d a (g .1) ρ (subst (Typed P) (sym (u .0)) h)),
+  stays-typed P w (opened o a) l (g .2) (left a r σ) (left-typed P w o (at .inside) d a (g .1) r σ h) (u .1),
 )
 stays-typed P w o (was-given a t v ∷ l) g σ h u = stays-typed P w o l g σ h u
 

@@ -13,13 +13,13 @@ use Rattle.std.specs.declared.result.Result.the-variants.{Err}
 use Rattle.fault.specs.Numbers.{trapNumber}
 use Rattle.fault.specs.declared.Trap.the-variants.{Index, Divisor, Beyond, Depth, Foreign}
 use Rattle.integer.specs.Integers.{greatest}
-use Rattle.program.specs.Types.{Writing, Shape, fits, within}
-use Rattle.program.specs.Trees.{Program}
+use Rattle.program.specs.Types.{Simple, Writing, Shape, fits, within}
+use Rattle.program.specs.Trees.{Variable, Formal, Program}
 use Rattle.program.specs.Trees.Operator.{plus, minus, times, over, div, modulo}
 use Rattle.program.specs.Cells.{Cell, Cell-at}
 use Rattle.program.specs.WellFormed.{Well-formed}
-use Rattle.meaning.specs.Actions.{Action, Cells, Line, Event, left, started, deepest}
-use Rattle.meaning.specs.Actions.Action.{an-index, an-operator}
+use Rattle.meaning.specs.Actions.{Item, Action, Cells, Line, Event, left, started, deepest}
+use Rattle.meaning.specs.Actions.Action.{a-constant, a-take, a-read, an-index, an-operator, a-turn, an-entry}
 use Rattle.meaning.specs.Actions.Line.{did, was-given}
 use Rattle.meaning.specs.Meaning.{meaning}
 
@@ -33,6 +33,14 @@ Undisturbed σ (was-given a t v ∷ l) = Undisturbed σ l
 abbrev pub Typed : Program → Cells → Type 0
 Typed P σ = (c : ℕ) (x : Cell) → Cell-at P c x → T (fits (x .type) (getD σ c (pos 0)))
 
+-- the actions after which more is open or waits than before: only they can be too deep
+pub data Deepens : Action → Type 0 where
+  constant-taken : {v : ℤ} → Deepens (a-constant v)
+  variable-taken : {c : ℕ} {t : Simple} → Deepens (a-take c t)
+  register-read : {a : ℕ} {t : Simple} → Deepens (a-read a t)
+  turn-begun : Deepens a-turn
+  call-entered : {m : ℕ} {fs : List Formal} {zs : List Variable} {is : List Item} → Deepens (an-entry m fs zs is)
+
 -- Why an action that leaves the depth d traps. No quotient, remainder or negation is beyond the integers, and no cell is foreign to its type.
 pub data Causes : Trap → ℕ → Action → Type 0 where
   out-of-bounds : {d base : ℕ} {w : Writing} {low high v : ℤ} {s : Shape} → ¬ (T (within low high v)) → Causes Index d (an-index base w low high s v)
@@ -42,7 +50,7 @@ pub data Causes : Trap → ℕ → Action → Type 0 where
   sum-beyond : {d : ℕ} {x y : ℤ} → greatest < natAbs (x +ℤ y) → Causes Beyond d (an-operator plus x y)
   difference-beyond : {d : ℕ} {x y : ℤ} → greatest < natAbs (x -ℤ y) → Causes Beyond d (an-operator minus x y)
   product-beyond : {d : ℕ} {x y : ℤ} → greatest < natAbs (x *ℤ y) → Causes Beyond d (an-operator times x y)
-  too-deep : {d : ℕ} {a : Action} → deepest < d → Causes Depth d a
+  too-deep : {d : ℕ} {a : Action} → Deepens a → deepest < d → Causes Depth d a
 
 -- A trap has its cause; where there is a cause there is a trap, with that number or a smaller one; and none is for a foreign cell.
 pub record Traps-exactly (d : ℕ) (a : Action) (r : Result ℤ Trap) : Type 0 where
