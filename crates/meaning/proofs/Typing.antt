@@ -28,7 +28,8 @@ use Rattle.meaning.specs.Actions.Action.{a-constant, a-take, a-read, an-index,
 use Rattle.meaning.specs.Actions.Line.{did, was-given}
 use Rattle.meaning.specs.Meaning.{meaning, whole-body}
 use Rattle.meaning.specs.Hiding.{Open, opened}
-use Rattle.meaning.specs.Typing.{Undisturbed, Typed, Deepens, Causes, Traps-exactly, Stays-typed, Types-kept}
+use lib.Seq.{getD-take}
+use Rattle.meaning.specs.Typing.{Same-own, Undisturbed, Typed, Deepens, Causes, Traps-exactly, Stays-typed, Types-kept}
 use Rattle.meaning.specs.Typing.Deepens.{constant-taken, variable-taken, register-read, turn-begun, call-entered}
 use Rattle.meaning.specs.Typing.Causes.{out-of-bounds, divisor-0, div-below-1, mod-below-1, sum-beyond, difference-beyond, product-beyond, too-deep}
 use Rattle.meaning.proofs.Operators.{Fits, ok-err, err-inj, sign-caused, operator-caused, index-caused, index-traps, beyond-traps, over-traps, div-traps, mod-traps}
@@ -215,14 +216,24 @@ traps-exactly P o m d a l σ h =
       never-foreign = λ e. let p = cause-number Foreign d a (c Foreign e) in omega arith;
     }
 
+-- what holds of the program's cells holds of all cells that have the same
+own-typed : (P : Program) (ρ σ : Cells) → Same-own P ρ σ → Typed P σ → Typed P ρ
+own-typed P ρ σ e h c x q =
+    let l = elem-below (table P) c x q in
+    let same : getD σ c (pos 0) ≡ getD ρ c (pos 0) =
+    sym (getD-take (length (table P)) σ c (pos 0) l) ∙ ap (λ τ. getD τ c (pos 0)) (sym e) ∙ getD-take (length (table P)) ρ c (pos 0) l in
+    subst (λ v. T (fits (x .type) v)) same (h c x q)
+
 stays-typed : (P : Program) → Dealt 0 (P .variables) → (o : List Open) (l : List Line) → Lawful P o l
-    → (σ : Cells) → Typed P σ → Undisturbed σ l → Stays-typed P σ l
+    → (σ : Cells) → Typed P σ → Undisturbed P σ l → Stays-typed P σ l
 stays-typed P w o [] g σ h u = h
-stays-typed P w o (did at d a ρ r ∷ l) g σ h u = (
-  h,
-  subst (Traps-exactly d a) (sym (g .0)) (traps-exactly P o (at .inside) d a (g .1) ρ (subst (Typed P) (sym (u .0)) h)),
-  stays-typed P w (opened o a) l (g .2) (left a r σ) (left-typed P w o (at .inside) d a (g .1) r σ h) (u .1),
-)
+stays-typed P w o (did at d a ρ r ∷ l) g σ h u =
+    let found = own-typed P ρ σ (u .0) h in (
+      h,
+      found,
+      subst (Traps-exactly d a) (sym (g .0)) (traps-exactly P o (at .inside) d a (g .1) ρ found),
+      stays-typed P w (opened o a) l (g .2) (left a r ρ) (left-typed P w o (at .inside) d a (g .1) r ρ found) (u .1),
+    )
 stays-typed P w o (was-given a t v ∷ l) g σ h u = stays-typed P w o l g σ h u
 
 -- the whole of a well-formed program is lawful

@@ -3,7 +3,7 @@ use Prim.{Unit, ¬_}
 use Prim.Native.Nat.{ℕ, _<_, _≤_}
 use mathlib.Core.Path.{_≡_}
 use mathlib.Core.List.{List, [], _∷_}
-use lib.ListN.{getD}
+use lib.ListN.{length, getD, take}
 use lib.IntN.{ℤ, pos, natAbs, _+ℤ_, _-ℤ_, _*ℤ_}
 use lib.Signed.{_<ℤ_}
 use lib.Dec.{T}
@@ -16,18 +16,22 @@ use Rattle.integer.specs.Integers.{greatest}
 use Rattle.program.specs.Types.{Simple, Writing, Shape, fits, within}
 use Rattle.program.specs.Trees.{Variable, Formal, Program}
 use Rattle.program.specs.Trees.Operator.{plus, minus, times, over, div, modulo}
-use Rattle.program.specs.Cells.{Cell, Cell-at}
+use Rattle.program.specs.Cells.{Cell, Cell-at, table}
 use Rattle.program.specs.WellFormed.{Well-formed}
 use Rattle.meaning.specs.Actions.{Item, Action, Cells, Line, Event, left, started, deepest}
 use Rattle.meaning.specs.Actions.Action.{a-constant, a-take, a-read, an-index, an-operator, a-turn, an-entry}
 use Rattle.meaning.specs.Actions.Line.{did, was-given}
 use Rattle.meaning.specs.Meaning.{meaning}
 
--- Nobody else writes: each action finds the cells as the one before left them.
-abbrev pub Undisturbed : Cells → List Line → Type 0
-Undisturbed σ [] = Unit {0}
-Undisturbed σ (did at d a ρ r ∷ l) = (ρ ≡ σ) × Undisturbed (left a r σ) l
-Undisturbed σ (was-given a t v ∷ l) = Undisturbed σ l
+-- the program's own cells are the same
+abbrev pub Same-own : Program → Cells → Cells → Type 0
+Same-own P ρ σ = take (length (table P)) ρ ≡ take (length (table P)) σ
+
+-- Nobody else writes the program's cells: each action finds them as the one before left them. Of the other cells nothing is asked.
+abbrev pub Undisturbed : Program → Cells → List Line → Type 0
+Undisturbed P σ [] = Unit {0}
+Undisturbed P σ (did at d a ρ r ∷ l) = Same-own P ρ σ × Undisturbed P (left a r ρ) l
+Undisturbed P σ (was-given a t v ∷ l) = Undisturbed P σ l
 
 -- every cell of the program holds a value of its type
 abbrev pub Typed : Program → Cells → Type 0
@@ -58,13 +62,14 @@ pub record Traps-exactly (d : ℕ) (a : Action) (r : Result ℤ Trap) : Type 0 w
   pub traps : (t : Trap) → Causes t d a → (u : Trap) × (r ≡ Err u) × (trapNumber u ≤ trapNumber t)
   pub never-foreign : ¬ (r ≡ Err Foreign)
 
+-- all along: before each action, and after the last one
 abbrev pub Stays-typed : Program → Cells → List Line → Type 0
 Stays-typed P σ [] = Typed P σ
-Stays-typed P σ (did at d a ρ r ∷ l) = Typed P σ × Traps-exactly d a r × Stays-typed P (left a r σ) l
+Stays-typed P σ (did at d a ρ r ∷ l) = Typed P σ × Typed P ρ × Traps-exactly d a r × Stays-typed P (left a r ρ) l
 Stays-typed P σ (was-given a t v ∷ l) = Stays-typed P σ l
 
 -- For every well-formed program, every sequence of calls, and every store at the start.
 abbrev pub Types-kept : Type 0
 Types-kept =
     (P : Program) → Well-formed P
-    → (es : List Event) (σ : Cells) → Undisturbed (started P σ) (meaning P es .log) → Stays-typed P (started P σ) (meaning P es .log)
+    → (es : List Event) (σ : Cells) → Undisturbed P (started P σ) (meaning P es .log) → Stays-typed P (started P σ) (meaning P es .log)
