@@ -30,7 +30,7 @@ use Rattle.program.specs.Trees.Arms.{otherwise, arm}
 use Rattle.program.specs.Trees.Parts.{ends, exits}
 use Rattle.program.specs.Trees.Procedure.{procedure}
 use Rattle.program.specs.Trees.Function.{function}
-use Rattle.program.specs.Cells.{cell, Cell-at, Mine, Each, Each-of, Part, Part-of, Dealt, part-of}
+use Rattle.program.specs.Cells.{cell, Cell-at, Changeable, Each, Each-of, Part, Part-of, Dealt, part-of}
 use Rattle.program.specs.WellFormed.{ok-sign, ok-operator, last-first, var-shapes, Owned-simple, All-owned, Formals-owned, Allowed, ok-name, formals-of, function-formals, ok-expr, ok-designator, ok-actuals, ok-stmt, ok-arms, ok-parts, ok-procedure, ok-function}
 use Rattle.program.proofs.Dealing.{none-some, some-inj, dealt-each}
 use Rattle.meaning.specs.Actions.{Way, Item, Action, Cells, Line, Event, Run, Behaviour, gives, finds, outcome, first-trap, truth, deepest}
@@ -81,18 +81,18 @@ decision-low d false h = h
 
 formals-turned : (P : Program) (m : ℕ) (fs gs : List Formal) → Formals-owned P m fs → Formals-owned P m gs → Formals-owned P m (reverseAux fs gs)
 formals-turned P m [] gs h g = g
-formals-turned P m (by-const x t ∷ fs) gs h g = formals-turned P m fs (by-const x t ∷ gs) (h .1) (h .0, g)
+formals-turned P m (by-const x t ∷ fs) gs h g = formals-turned P m fs (by-const x t ∷ gs) (h .1) (h .0, g, h .2)
 formals-turned P m (by-var s ∷ fs) gs h g = formals-turned P m fs (by-var s ∷ gs) h g
 
 module _ (P : Program) where
   -- the cell c is one of the program, of this type
   abbrev pub Is : ℕ → Simple → Type 0
-  Is c t = (m : ℕ) × Cell-at P c (cell m t)
+  Is c t = (m : ℕ) × (b : Bool) × Cell-at P c (cell m b t)
 
   -- who names the variable of a cell so, under these open calls, does so rightly; one who only reads may do so anywhere
   abbrev pub Named : List Open → Option ℕ → Way → ℕ → Type 0
   Named o none direct c = Unit {0}
-  Named o (some m) direct c = Mine P m c
+  Named o (some m) direct c = Changeable P m c
   Named o who onward c = Lent P c o
 
   -- a variable of this type stands there, and is rightly named so
@@ -218,21 +218,21 @@ module _ (P : Program) where
   onward-named o (some m) c h = h
 
   module _ (dealt : Dealt 0 (P .variables)) where
-    own-named : (o : List Open) (who : Option ℕ) (x : Variable) (c : ℕ) (t : Simple) → Allowed P who x → Cell-at P c (cell (x .inside) t) → Named o who direct c
+    own-named : (o : List Open) (who : Option ℕ) (x : Variable) (c : ℕ) (t : Simple) → Allowed P who x → Cell-at P c (cell (x .inside) (x .fixed) t) → Named o who direct c
     own-named o none x c t a e = tt
-    own-named o (some m) x c t a e = (cell (x .inside) t, e, a)
+    own-named o (some m) x c t a e = (cell (x .inside) (x .fixed) t, e, a .0, a .1)
 
     name-place : (o : List Open) (f : List Shape) (ls : List ℕ) → Stands o f ls → (who : Option ℕ) (n : Name) (s : Shape) → ok-name P f who n s
         → Place o who (way (whole n)) s (cell-of ls n)
     name-place o f ls st who (own x) s h =
         subst (λ s. Place o who direct s (x .cell)) (h .1)
-        (each-map _ _ (x .cell) (x .shape) (λ c t q e. ((x .inside, e), own-named o who x c t (h .2) e)) (dealt-each P dealt x (h .0)))
+        (each-map _ _ (x .cell) (x .shape) (λ c t q e. ((x .inside, x .fixed, e), own-named o who x c t (h .2) e)) (dealt-each P dealt x (h .0)))
     name-place o f ls st who (formal n) s h = each-map _ _ (getD ls n 0) s (λ c t q p. (p .0, onward-named o who c (p .1))) (st n s h)
 
     -- the result of a function, and its cell
     pub simple-is : (m : ℕ) (x : Variable) (t : Simple) → Owned-simple P m x t → Is (x .cell) t
     simple-is m x t h =
-        subst (λ s. Each (λ c t. Is c t) (x .cell) s) (h .2) (each-map _ _ (x .cell) (x .shape) (λ c t q e. (x .inside, e)) (dealt-each P dealt x (h .0)))
+        subst (λ s. Each (λ c t. Is c t) (x .cell) s) (h .2) (each-map _ _ (x .cell) (x .shape) (λ c t q e. (x .inside, x .fixed, e)) (dealt-each P dealt x (h .0)))
 
     mutual
       eval-safe : (o : List Open) (f : List Shape) (ls : List ℕ) → Stands o f ls

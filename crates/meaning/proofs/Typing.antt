@@ -60,7 +60,7 @@ module _ (P : Program) where
 
   -- a value of the type of a cell fits whatever is said of that cell
   fits-cell : (c : ℕ) (t : Simple) (v : ℤ) → Is P c t → Fits t v → (x : Cell) → Cell-at P c x → T (fits (x .type) v)
-  fits-cell c t v i f x e = let q : cell (i .0) t ≡ x = some-inj (sym (i .1) ∙ e) in subst (λ x. T (fits (x .type) v)) q f
+  fits-cell c t v i f x e = let q : cell (i .0) (i .1) t ≡ x = some-inj (sym (i .2) ∙ e) in subst (λ x. T (fits (x .type) v)) q f
 
   cleared-typed : (c n : ℕ) (σ : Cells) → Typed P σ → Typed P (cleared c n σ)
   cleared-typed c zero σ h = h
@@ -105,7 +105,7 @@ module _ (P : Program) where
   -- cells that hold values of their types are foreign to none
   finds-typed : (o : List Open) (m d : ℕ) (a : Action) → law P o m d a → (σ : Cells) → Typed P σ → T (finds a σ)
   finds-typed o m d (a-constant v) l σ h = tt
-  finds-typed o m d (a-take c t) l σ h = h c (cell (l .0) t) (l .1)
+  finds-typed o m d (a-take c t) l σ h = h c (cell (l .0) (l .1) t) (l .2)
   finds-typed o m d (a-read a t) l σ h = tt
   finds-typed o m d (an-index base w low high s v) l σ h = tt
   finds-typed o m d (a-sign g v) l σ h = tt
@@ -117,7 +117,7 @@ module _ (P : Program) where
   finds-typed o m d (a-write a v) l σ h = tt
   finds-typed o m d (an-entry n fs zs is) l σ h = tt
   finds-typed o m d a-leave l σ h = tt
-  finds-typed o m d (a-leave-with r t) l σ h = h r (cell (l .0 .0) t) (l .0 .1)
+  finds-typed o m d (a-leave-with r t) l σ h = h r (cell (l .0 .0) (l .0 .1) t) (l .0 .2)
 
   -- a trap that lies in what an action does has its cause
   gives-caused : (o : List Open) (m d : ℕ) (a : Action) → law P o m d a → (σ : Cells) (u : Trap) → gives a σ ≡ Err u → Causes u d a

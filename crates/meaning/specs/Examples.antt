@@ -23,7 +23,7 @@ use Rattle.program.specs.Trees.Procedure.{procedure}
 use Rattle.program.specs.Trees.Function.{function}
 use Rattle.program.specs.Decided.{well-formed}
 use Rattle.meaning.specs.Actions.State.{finished, trapped, awaiting, offering}
-use Rattle.meaning.specs.Running.{tells, line-of, at, variable, writing}
+use Rattle.meaning.specs.Running.{tells, line-of, at, variable, const-formal, writing}
 use Rattle.meaning.specs.Running.Kind.{take, index, op, test, store, entry, leave, turn}
 use Rattle.meaning.specs.Running.Beside.{nobody, somebody}
 use Rattle.meaning.specs.Actions.{operated, outcome, left}
@@ -44,7 +44,7 @@ abbrev yard-first : Variable
 yard-first = variable (codes "first") (simple boolean) 0 1
 
 abbrev yard-w : Variable
-yard-w = variable (codes "w") (simple integer) 1 1
+yard-w = const-formal (codes "w") integer 1 1
 
 abbrev yard-put-called : Procedure
 yard-put-called = procedure 1 (by-const yard-w integer ∷ []) [] (assign (at 111 1) boolean (whole (own yard-first)) (constant (at 120 1)
@@ -222,7 +222,7 @@ part-onward = record {
 
 -- module m; procedure p(n: integer); var a: integer; begin a := a + n end p; begin p(2); p(3) end m.
 abbrev entry-clears-n : Variable
-entry-clears-n = variable (codes "n") (simple integer) 0 0
+entry-clears-n = const-formal (codes "n") integer 0 0
 
 abbrev entry-clears-a : Variable
 entry-clears-a = variable (codes "a") (simple integer) 1 0
@@ -255,7 +255,7 @@ abbrev deep-x : Variable
 deep-x = variable (codes "x") (simple char) 0 0
 
 abbrev deep-n : Variable
-deep-n = variable (codes "n") (simple char) 1 0
+deep-n = const-formal (codes "n") char 1 0
 
 abbrev deep-result : Variable
 deep-result = variable (codes "f") (simple char) 2 0

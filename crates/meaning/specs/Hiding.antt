@@ -10,9 +10,9 @@ use lib.Dec.{T}
 use Rattle.fault.specs.declared.Trap.{Trap}
 use Rattle.std.specs.declared.result.Result.{Result}
 use Rattle.program.specs.Types.{Writing, Shape}
-use Rattle.program.specs.Trees.{At, Formal, Program}
+use Rattle.program.specs.Trees.{At, Variable, Formal, Program}
 use Rattle.program.specs.Trees.Formal.{by-const, by-var}
-use Rattle.program.specs.Cells.{Mine, Part, table, part-of}
+use Rattle.program.specs.Cells.{Cell, Cell-at, Mine, Changeable, Part, table, part-of}
 use Rattle.program.specs.WellFormed.{Well-formed}
 use Rattle.meaning.specs.Actions.{Item, Action, Cells, Line, Event, left}
 use Rattle.meaning.specs.Actions.Way.{direct, onward}
@@ -52,7 +52,7 @@ Lent-by P c X stands (val v ∷ is) [] = ⊥
 Lent-by P c X stands (val v ∷ is) (f ∷ fs) = Lent-by P c X stands is fs
 Lent-by P c X stands (ref b w ∷ is) [] = ⊥
 Lent-by P c X stands (ref b w ∷ is) (by-const x t ∷ fs) = Lent-by P c X stands is fs
-Lent-by P c X stands (ref b direct ∷ is) (by-var s ∷ fs) = (Part c b s × Mine P stands c) ⊎ Lent-by P c X stands is fs
+Lent-by P c X stands (ref b direct ∷ is) (by-var s ∷ fs) = (Part c b s × Changeable P stands c) ⊎ Lent-by P c X stands is fs
 Lent-by P c X stands (ref b onward ∷ is) (by-var s ∷ fs) = (Part c b s × X) ⊎ Lent-by P c X stands is fs
 
 -- the innermost open call lent the cell c, or passed on a cell so lent by the call around it
@@ -64,10 +64,16 @@ Lent P c (l ∷ o) = Lent-by P c (Lent P c o) (l .stands) (l .items) (l .for)
 pub data By-formal : Action → Type 0 where
   store-onward : {c : ℕ} {v : ℤ} → By-formal (a-store onward c v)
 
+-- an entry
+pub data Entered : Action → Type 0 where
+  by-entry : {m : ℕ} {fs : List Formal} {zs : List Variable} {is : List Item} → Entered (an-entry m fs zs is)
+
 -- What an action at this place may do to the cells, under these open calls.
 pub record Minds (P : Program) (o : List Open) (at : At) (a : Action) (r : Result ℤ Trap) (σ : Cells) : Type 0 where
   -- it changes a cell only in the text of the module that declares it, or through a var formal to which that text passed it, directly or onward
   pub changes : (c : ℕ) → ¬ (getD (left a r σ) c (pos 0) ≡ getD σ c (pos 0)) → Mine P (at .inside) c ⊎ (By-formal a × Lent P c o)
+  -- a const formal's cell changes only at an entry
+  pub const-kept : (c : ℕ) (x : Cell) → Cell-at P c x → T (x .fixed) → ¬ (getD (left a r σ) c (pos 0) ≡ getD σ c (pos 0)) → Entered a
   -- the count and the cells beyond the program's own stay as they are
   pub count : length (left a r σ) ≡ length σ
   pub beyond : drop (length (table P)) (left a r σ) ≡ drop (length (table P)) σ

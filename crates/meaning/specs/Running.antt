@@ -3,7 +3,9 @@ use Prim.Native.Nat.{ℕ, zero, suc}
 use mathlib.Core.List.{List, [], _∷_, _++_}
 use lib.ListN.{length}
 use lib.IntN.{ℤ}
-use Rattle.program.specs.Types.{Shape, Writing}
+use Rattle.program.specs.Types.{Simple, Shape, Writing}
+use Rattle.program.specs.Types.Shape.{simple}
+use mathlib.Core.Bool.{true, false}
 use Rattle.program.specs.Trees.{At, Variable, Program}
 use Rattle.meaning.specs.Actions.{Cells, Action, Line, Event, State, left, started}
 use Rattle.meaning.specs.Actions.Action.{a-constant, a-take, a-read, an-index, a-sign, an-operator, a-decision, a-test, a-turn, a-store, a-write, an-entry, a-leave, a-leave-with}
@@ -86,7 +88,10 @@ abbrev pub at : ℕ → ℕ → At
 at p m = record { place = p; inside = m }
 
 abbrev pub variable : List ℕ → Shape → ℕ → ℕ → Variable
-variable name s c m = record { name = name; shape = s; cell = c; inside = m }
+variable name s c m = record { name = name; shape = s; cell = c; inside = m; fixed = false }
+
+abbrev pub const-formal : List ℕ → Simple → ℕ → ℕ → Variable
+const-formal name t c m = record { name = name; shape = simple t; cell = c; inside = m; fixed = true }
 
 abbrev pub writing : ℕ → ℕ → Writing
 writing n m = record { number = n; inside = m }

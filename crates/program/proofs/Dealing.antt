@@ -105,27 +105,27 @@ module _ {A : Type 0} (a : Simple → A) where
 
 -- a variable of the program has its cells in the table
 variable-has : (all : List Cell) (b : ℕ) (xs : List Variable) → Dealt b xs → Has all b (cells-of xs)
-    → (x : Variable) → Among x xs → Has all (x .cell) (flat (cell (x .inside)) (x .shape))
+    → (x : Variable) → Among x xs → Has all (x .cell) (flat (cell (x .inside) (x .fixed)) (x .shape))
 variable-has all b [] d h x m = absurd m
 variable-has all b (y ∷ ys) d h x (inl e) =
-    subst (λ x. Has all (x .cell) (flat (cell (x .inside)) (x .shape))) (sym e)
-    (subst (λ c. Has all c (flat (cell (y .inside)) (y .shape))) (sym (d .0))
-    (has-left all b (flat (cell (y .inside)) (y .shape)) (cells-of ys) h))
+    subst (λ x. Has all (x .cell) (flat (cell (x .inside) (x .fixed)) (x .shape))) (sym e)
+    (subst (λ c. Has all c (flat (cell (y .inside) (y .fixed)) (y .shape))) (sym (d .0))
+    (has-left all b (flat (cell (y .inside) (y .fixed)) (y .shape)) (cells-of ys) h))
 variable-has all b (y ∷ ys) d h x (inr m) =
     variable-has all (b + size (y .shape)) ys (d .1)
-    (subst (λ n. Has all (b + n) (cells-of ys)) (flat-length (cell (y .inside)) (y .shape))
-    (has-right all b (flat (cell (y .inside)) (y .shape)) (cells-of ys) h))
+    (subst (λ n. Has all (b + n) (cells-of ys)) (flat-length (cell (y .inside) (y .fixed)) (y .shape))
+    (has-right all b (flat (cell (y .inside) (y .fixed)) (y .shape)) (cells-of ys) h))
     x m
 
 pub dealt-has : (P : Program) → Dealt 0 (P .variables) → (x : Variable) → Among x (P .variables)
-    → Has (table P) (x .cell) (flat (cell (x .inside)) (x .shape))
+    → Has (table P) (x .cell) (flat (cell (x .inside) (x .fixed)) (x .shape))
 dealt-has P d x m =
     variable-has (table P) 0 (P .variables) d (λ i y e. ap (getElem? (table P)) (let p : 0 + i ≡ i = omega arith in p) ∙ e) x m
 
 -- each part of a variable is a cell of its type, and of its module
 pub dealt-each : (P : Program) → Dealt 0 (P .variables) → (x : Variable) → Among x (P .variables)
-    → Each (λ c t. Cell-at P c (cell (x .inside) t)) (x .cell) (x .shape)
-dealt-each P d x m = each-dealt (cell (x .inside)) (table P) (x .cell) (x .shape) (dealt-has P d x m)
+    → Each (λ c t. Cell-at P c (cell (x .inside) (x .fixed) t)) (x .cell) (x .shape)
+dealt-each P d x m = each-dealt (cell (x .inside) (x .fixed)) (table P) (x .cell) (x .shape) (dealt-has P d x m)
 
 -- all elements of a flattened type are what `a` says of some simple type
 module _ {A : Type 0} (a : Simple → A) where
@@ -156,8 +156,8 @@ module _ {A : Type 0} (a : Simple → A) where
 
 -- each of the cells of a variable is one of its module
 pub dealt-cells : (P : Program) → Dealt 0 (P .variables) → (x : Variable) → Among x (P .variables)
-    → (i : ℕ) → i < size (x .shape) → (t : Simple) × Cell-at P (x .cell + i) (cell (x .inside) t)
+    → (i : ℕ) → i < size (x .shape) → (t : Simple) × Cell-at P (x .cell + i) (cell (x .inside) (x .fixed) t)
 dealt-cells P d x m i p =
-    let q : i < length (flat (cell (x .inside)) (x .shape)) = omega (arith, flat-length (cell (x .inside)) (x .shape)) in
-    let f = flat-from (cell (x .inside)) (x .shape) i q in
-    (f .2 .0, dealt-has P d x m i (cell (x .inside) (f .2 .0)) (f .1 ∙ ap some (f .2 .1)))
+    let q : i < length (flat (cell (x .inside) (x .fixed)) (x .shape)) = omega (arith, flat-length (cell (x .inside) (x .fixed)) (x .shape)) in
+    let f = flat-from (cell (x .inside) (x .fixed)) (x .shape) i q in
+    (f .2 .0, dealt-has P d x m i (cell (x .inside) (x .fixed) (f .2 .0)) (f .1 ∙ ap some (f .2 .1)))

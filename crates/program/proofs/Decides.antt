@@ -4,7 +4,7 @@ use Prim.Native.Nat.{ℕ, suc, _+_, _-_, _≤_}
 use native.Mathlib.Omega.{arith}
 use mathlib.Core.Path.{_≡_, refl, sym, ap, subst}
 use mathlib.Core.Logic.{_⊎_, inl, inr}
-use mathlib.Core.Bool.{Bool, true, false, _&&_, _||_}
+use mathlib.Core.Bool.{Bool, true, false, _&&_, _||_, not}
 use mathlib.Core.List.{List, [], _∷_}
 use mathlib.Core.Option.{Option, none, some}
 use lib.ListN.{getElem?}
@@ -29,7 +29,7 @@ use Rattle.program.specs.Trees.Procedure.{procedure}
 use Rattle.program.specs.Trees.Function.{function}
 use Rattle.program.specs.Cells.{part-of, Dealt}
 use Rattle.program.specs.WellFormed.{Among, ok-sign, ok-operator, last-first, var-shapes, Owned, Owned-simple, All-owned, Formals-owned, Allowed, ok-name, formals-of, function-formals, ok-expr, ok-designator, ok-actuals, ok-stmt, ok-arms, ok-parts, ok-procedure, ok-function, ok-bodies, Nested, few-cells, sane-variables}
-use Rattle.program.specs.Decided.{same-simple, same-writing, same-integer, same-shape, same-fields, same-text, same-variable, among, has-field, sign-ok, operator-ok, owned, owned-simple, all-owned, formals-owned, allowed, is-shape, name-ok, open-here, address, expr-ok, designator-ok, actuals-ok, stmt-ok, arms-ok, parts-ok, procedure-ok, function-ok, bodies-ok, nested, dealt, well-formed}
+use Rattle.program.specs.Decided.{same-simple, same-writing, same-integer, same-shape, same-fields, same-text, same-truth, same-variable, among, has-field, sign-ok, operator-ok, owned, owned-simple, all-owned, formals-owned, allowed, is-shape, name-ok, open-here, address, expr-ok, designator-ok, actuals-ok, stmt-ok, arms-ok, parts-ok, procedure-ok, function-ok, bodies-ok, nested, dealt, well-formed}
 use Rattle.program.specs.Theorems.{Decided}
 use Rattle.program.proofs.Dealing.{none-some, some-inj}
 
@@ -192,15 +192,25 @@ text-itself : (xs : List ℕ) → T (same-text xs xs)
 text-itself [] = tt
 text-itself (x ∷ xs) = both-and (eqb x x) _ (eqb-refl x) (text-itself xs)
 
+truth-sound : (a b : Bool) → T (same-truth a b) → a ≡ b
+truth-sound true true h = refl
+truth-sound true false h = absurd h
+truth-sound false true h = absurd h
+truth-sound false false h = refl
+
+truth-itself : (a : Bool) → T (same-truth a a)
+truth-itself true = tt
+truth-itself false = tt
+
 variable-sound : (x y : Variable) → T (same-variable x y) → x ≡ y
 variable-sound x y h =
-    let w = (four (same-text (x .name) (y .name)) (same-shape (x .shape) (y .shape)) (eqb (x .cell) (y .cell)) (eqb (x .inside) (y .inside))
-    (by-same same-text text-sound text-itself _ _) (shape-is _ _) (number _ _) (number _ _)) .0 h in
-    λ i. record { name = w .0 i; shape = w .1 i; cell = w .2 i; inside = w .3 i }
+    let w = (five (same-text (x .name) (y .name)) (same-shape (x .shape) (y .shape)) (eqb (x .cell) (y .cell)) (eqb (x .inside) (y .inside)) (same-truth (x .fixed) (y .fixed))
+    (by-same same-text text-sound text-itself _ _) (shape-is _ _) (number _ _) (number _ _) (by-same same-truth truth-sound truth-itself _ _)) .0 h in
+    λ i. record { name = w .0 i; shape = w .1 i; cell = w .2 i; inside = w .3 i; fixed = w .4 i }
 
 variable-itself : (x : Variable) → T (same-variable x x)
 variable-itself x =
-    both-and (same-text (x .name) (x .name)) _ (text-itself (x .name)) (both-and (same-shape (x .shape) (x .shape)) _ (shape-itself (x .shape)) (both-and (eqb (x .cell) (x .cell)) _ (eqb-refl (x .cell)) (eqb-refl (x .inside))))
+    both-and (same-text (x .name) (x .name)) _ (text-itself (x .name)) (both-and (same-shape (x .shape) (x .shape)) _ (shape-itself (x .shape)) (both-and (eqb (x .cell) (x .cell)) _ (eqb-refl (x .cell)) (both-and (eqb (x .inside) (x .inside)) _ (eqb-refl (x .inside)) (truth-itself (x .fixed)))))
 
 variable-is : (x y : Variable) → Decides (same-variable x y) (x ≡ y)
 variable-is = by-same same-variable variable-sound variable-itself
@@ -271,12 +281,13 @@ module _ (P : Program) where
 
   formals-owned-is : (m : ℕ) (fs : List Formal) → Decides (formals-owned P m fs) (Formals-owned P m fs)
   formals-owned-is m [] = always
-  formals-owned-is m (by-const x t ∷ fs) = two (owned-simple P m x t) (formals-owned P m fs) (owned-simple-is m x t) (formals-owned-is m fs)
+  formals-owned-is m (by-const x t ∷ fs) =
+      three (owned-simple P m x t) (formals-owned P m fs) (x .fixed) (owned-simple-is m x t) (formals-owned-is m fs) (itself (x .fixed))
   formals-owned-is m (by-var s ∷ fs) = formals-owned-is m fs
 
   allowed-is : (who : Option ℕ) (x : Variable) → Decides (allowed P who x) (Allowed P who x)
   allowed-is none x = always
-  allowed-is (some m) x = itself (part-of P m (x .inside))
+  allowed-is (some m) x = two (part-of P m (x .inside)) (not (x .fixed)) (itself (part-of P m (x .inside))) (itself (not (x .fixed)))
 
   name-is : (f : List Shape) (who : Option ℕ) (n : Name) (s : Shape) → Decides (name-ok P f who n s) (ok-name P f who n s)
   name-is f who (own x) s =

@@ -3,7 +3,7 @@ use Prim.{⊥}
 use Prim.Native.Nat.{ℕ, zero, suc, _+_}
 use mathlib.Core.Path.{_≡_}
 use mathlib.Core.Logic.{_⊎_}
-use mathlib.Core.Bool.{Bool, _||_}
+use mathlib.Core.Bool.{Bool, _||_, not}
 use mathlib.Core.List.{List, [], _∷_, _++_}
 use mathlib.Core.Option.{some}
 use lib.ListN.{length, getD, getElem?}
@@ -14,13 +14,14 @@ use Rattle.program.specs.Types.Shape.{simple, array, record-of}
 use Rattle.program.specs.Types.Fields.{no-field, field-and}
 use Rattle.program.specs.Trees.{Variable, Program}
 
--- what is said of a cell: its type, and the module that declares it
+-- what is said of a cell: its type, the module that declares it, and whether it is a const formal's
 pub record Cell : Type 0 where
   pub type : Simple
   pub owner : ℕ
+  pub fixed : Bool
 
-abbrev pub cell : ℕ → Simple → Cell
-cell m t = record { type = t; owner = m }
+abbrev pub cell : ℕ → Bool → Simple → Cell
+cell m b t = record { type = t; owner = m; fixed = b }
 
 abbrev pub copies : {A : Type 0} → ℕ → List A → List A
 copies zero l = []
@@ -39,7 +40,7 @@ abbrev mutual
 
 abbrev pub cells-of : List Variable → List Cell
 cells-of [] = []
-cells-of (x ∷ xs) = flat (cell (x .inside)) (x .shape) ++ cells-of xs
+cells-of (x ∷ xs) = flat (cell (x .inside) (x .fixed)) (x .shape) ++ cells-of xs
 
 -- the program's own cells, which are the first ones of its store
 abbrev pub table : Program → List Cell
@@ -64,6 +65,10 @@ part-of P m n = inside-of (length (P .modules)) (P .modules) m n
 -- the module m stands in the text of the module that declares the cell c
 abbrev pub Mine : Program → ℕ → ℕ → Type 0
 Mine P m c = (x : Cell) × Cell-at P c x × T (part-of P m (x .owner))
+
+-- and may change it there: it is no const formal's
+abbrev pub Changeable : Program → ℕ → ℕ → Type 0
+Changeable P m c = (x : Cell) × Cell-at P c x × T (part-of P m (x .owner)) × T (not (x .fixed))
 
 -- X holds of every simple part of a variable of this type, by the part's cell and type
 abbrev mutual

@@ -1,6 +1,6 @@
 -- Well-formedness as a Bool function: it goes through the program as the judgment does, and answers true exactly where that holds.
 use Prim.Native.Nat.{ℕ, suc, _+_, _-_}
-use mathlib.Core.Bool.{Bool, true, false, _&&_, _||_}
+use mathlib.Core.Bool.{Bool, true, false, _&&_, _||_, not}
 use mathlib.Core.List.{List, [], _∷_}
 use mathlib.Core.Option.{Option, none, some}
 use lib.ListN.{getElem?}
@@ -78,9 +78,13 @@ same-text [] (y ∷ ys) = false
 same-text (x ∷ xs) [] = false
 same-text (x ∷ xs) (y ∷ ys) = eqb x y && same-text xs ys
 
+abbrev pub same-truth : Bool → Bool → Bool
+same-truth true b = b
+same-truth false b = not b
+
 abbrev pub same-variable : Variable → Variable → Bool
 same-variable x y =
-    same-text (x .name) (y .name) && (same-shape (x .shape) (y .shape) && (eqb (x .cell) (y .cell) && eqb (x .inside) (y .inside)))
+    same-text (x .name) (y .name) && (same-shape (x .shape) (y .shape) && (eqb (x .cell) (y .cell) && (eqb (x .inside) (y .inside) && same-truth (x .fixed) (y .fixed))))
 
 abbrev pub among : Variable → List Variable → Bool
 among x [] = false
@@ -123,12 +127,12 @@ all-owned P m (x ∷ xs) = owned P m x && all-owned P m xs
 
 abbrev pub formals-owned : Program → ℕ → List Formal → Bool
 formals-owned P m [] = true
-formals-owned P m (by-const x t ∷ fs) = owned-simple P m x t && formals-owned P m fs
+formals-owned P m (by-const x t ∷ fs) = owned-simple P m x t && (formals-owned P m fs && x .fixed)
 formals-owned P m (by-var s ∷ fs) = formals-owned P m fs
 
 abbrev pub allowed : Program → Option ℕ → Variable → Bool
 allowed P none x = true
-allowed P (some m) x = part-of P m (x .inside)
+allowed P (some m) x = part-of P m (x .inside) && not (x .fixed)
 
 abbrev pub is-shape : Option Shape → Shape → Bool
 is-shape none s = false

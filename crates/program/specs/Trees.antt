@@ -1,6 +1,7 @@
 -- The nodes of a resolved program. A variable stands in each node that names it, and a call has the called procedure itself in it: a
 -- procedure calls only those that ended before it, so that is a finite tree.
 use Prim.Native.Nat.{ℕ}
+use mathlib.Core.Bool.{Bool}
 use mathlib.Core.List.{List}
 use lib.IntN.{ℤ}
 use Rattle.program.specs.Types.{Simple, Writing, Shape, Fields}
@@ -10,12 +11,14 @@ pub record At : Type 0 where
   pub place : ℕ
   pub inside : ℕ
 
--- what a text declares with cells: a variable, a const formal or a result. Its name, its type, its first cell, and the module that declares it
+-- What a text declares with cells: a variable, a const formal or a result. Its name, its type, its first cell, the module that declares it,
+-- and whether it is fixed, as const formals are: nothing but an entry changes them.
 pub record Variable : Type 0 where
   pub name : List ℕ
   pub shape : Shape
   pub cell : ℕ
   pub inside : ℕ
+  pub fixed : Bool
 
 pub data Sign : Type 0 where
   plus-sign minus-sign not-sign : Sign

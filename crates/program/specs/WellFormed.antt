@@ -1,7 +1,7 @@
 -- What the checker guarantees of a program.
 use Prim.{⊥}
 use Prim.Native.Nat.{ℕ, suc}
-use mathlib.Core.Bool.{Bool, true, _&&_, _||_}
+use mathlib.Core.Bool.{Bool, true, _&&_, _||_, not}
 use mathlib.Core.Path.{_≡_}
 use mathlib.Core.Logic.{_⊎_}
 use mathlib.Core.List.{List, [], _∷_, reverseAux}
@@ -75,13 +75,14 @@ All-owned P m (x ∷ xs) = Owned P m x × All-owned P m xs
 
 abbrev pub Formals-owned : Program → ℕ → List Formal → Type 0
 Formals-owned P m [] = Unit {0}
-Formals-owned P m (by-const x t ∷ fs) = Owned-simple P m x t × Formals-owned P m fs
+Formals-owned P m (by-const x t ∷ fs) = Owned-simple P m x t × Formals-owned P m fs × T (x .fixed)
 Formals-owned P m (by-var s ∷ fs) = Formals-owned P m fs
 
--- Somebody who only reads may do so anywhere; whoever changes or passes on does so in the text of the module that declares.
+-- Somebody who only reads may do so anywhere; whoever changes or passes on does so in the text of the module that declares, and never with a
+-- const formal.
 abbrev pub Allowed : Program → Option ℕ → Variable → Type 0
 Allowed P none x = Unit {0}
-Allowed P (some m) x = T (part-of P m (x .inside))
+Allowed P (some m) x = T (part-of P m (x .inside)) × T (not (x .fixed))
 
 abbrev pub formals-of : Procedure → List Formal
 formals-of (procedure m fs vs body) = fs

@@ -21,7 +21,7 @@ use Rattle.program.specs.Trees.Procedure.{procedure}
 use Rattle.program.specs.Trees.Function.{function}
 use Rattle.program.specs.Decided.{well-formed}
 use Rattle.meaning.specs.Actions.State.{finished}
-use Rattle.meaning.specs.Running.{tells, at, variable, writing}
+use Rattle.meaning.specs.Running.{tells, at, variable, const-formal, writing}
 use Rattle.meaning.specs.Running.Kind.{take, index, op, test, store, entry, leave, turn}
 use Rattle.meaning.specs.Running.Beside.{nobody}
 
@@ -52,10 +52,10 @@ calls-2 = record { modules = 0 ∷ []; variables = []; bodies = (call (at 36 0) 
 
 -- module m; procedure p(a: integer; var b: integer; c: integer); end p; var x: integer; begin p(1, x, 2) end m.
 abbrev awaits-passing-1-a : Variable
-awaits-passing-1-a = variable (codes "a") (simple integer) 0 0
+awaits-passing-1-a = const-formal (codes "a") integer 0 0
 
 abbrev awaits-passing-1-c : Variable
-awaits-passing-1-c = variable (codes "c") (simple integer) 1 0
+awaits-passing-1-c = const-formal (codes "c") integer 1 0
 
 abbrev awaits-passing-1-p-called : Procedure
 awaits-passing-1-p-called = procedure 0 (by-const awaits-passing-1-a integer ∷ by-var (simple integer) ∷ by-const awaits-passing-1-c integer
@@ -124,7 +124,7 @@ open-bodies-2 = record {
 -- module m; procedure f(a: integer): integer; var b: char; begin f := a; b := 1C end f; var c: integer; d: record e: char; g: array 0:1 of
 -- char end; begin c := f(9); d.g[0] := 2C end m.
 abbrev order-of-cells-a : Variable
-order-of-cells-a = variable (codes "a") (simple integer) 0 0
+order-of-cells-a = const-formal (codes "a") integer 0 0
 
 abbrev order-of-cells-f : Variable
 order-of-cells-f = variable (codes "f") (simple integer) 1 0
@@ -157,10 +157,10 @@ order-of-cells = record {
 
 -- module m; procedure f(a, b: integer): integer; begin f := a * 10 + b end f; var x: integer; begin x := f(1, f(2, 3)) end m.
 abbrev call-in-actuals-a : Variable
-call-in-actuals-a = variable (codes "a") (simple integer) 0 0
+call-in-actuals-a = const-formal (codes "a") integer 0 0
 
 abbrev call-in-actuals-b : Variable
-call-in-actuals-b = variable (codes "b") (simple integer) 1 0
+call-in-actuals-b = const-formal (codes "b") integer 1 0
 
 abbrev call-in-actuals-f : Variable
 call-in-actuals-f = variable (codes "f") (simple integer) 2 0
