@@ -1,17 +1,11 @@
 -- No move raises the peak of the list of tasks, and no call does.
-use Prim.{tt, absurd}
-use Prim.Native.Nat.{ℕ, zero, suc, _+_, _≤_, _<_, max}
+use Prim.{tt}
+use Prim.Native.Nat.{ℕ, suc, _+_, _≤_, max}
 use native.Mathlib.Omega.{arith}
-use mathlib.Core.Path.{sym, subst}
 use mathlib.Core.Bool.{Bool, true, false, cond}
 use mathlib.Core.List.{List, [], _∷_}
 use lib.ListN.{length}
-use lib.IntN.{ℤ}
-use Rattle.fault.specs.declared.Trap.{Trap}
-use Rattle.std.specs.declared.result.Result.{Result}
-use Rattle.std.specs.declared.result.Result.the-variants.{Ok, Err}
 use Rattle.program.specs.Trees.{At, Expr, Designator, Actuals, Stmt, Arms, Parts, Procedure, Function}
-use Rattle.program.specs.Types.{fits}
 use Rattle.program.specs.Trees.Expr.{constant, value, register, unary, binary, junction, apply}
 use Rattle.program.specs.Trees.Designator.{whole, element, part}
 use Rattle.program.specs.Trees.Actuals.{no-more, a-value, a-variable}
@@ -20,24 +14,22 @@ use Rattle.program.specs.Trees.Arms.{otherwise, arm}
 use Rattle.program.specs.Trees.Parts.{ends, exits}
 use Rattle.program.specs.Trees.Procedure.{procedure}
 use Rattle.program.specs.Trees.Function.{function}
-use Rattle.meaning.specs.Actions.{Action, Cells, Line, Event, outcome, truth}
-use Rattle.meaning.specs.Actions.Event.{step, give, took}
+use Rattle.meaning.specs.Actions.{truth}
 use Rattle.meaning.specs.Meaning.{needed}
-use Rattle.machine.specs.Machine.{Task, Held, Config, Next, Now, the-value, top, next-of, next, acted, answer, start, moved-on, arrives, next-apply, next-call}
+use Rattle.machine.specs.Machine.{Task, Held, Config, the-value, top, start, next-apply, next-call}
 use Rattle.machine.specs.Machine.Task.{to-eval, to-locate, to-pass, to-exec, to-arms, to-turn, to-take, to-receive, to-sign, to-operate, to-decide, to-index, to-select, to-store, to-write, to-deliver, to-test, to-while, to-until, to-exit, to-close, to-apply, to-call, to-leave, to-leave-with}
 use Rattle.machine.specs.Machine.Next.{none, acts, awaits, offers}
-use Rattle.machine.specs.Machine.Answer.{refused, went-on}
-use Rattle.machine.specs.Moves.{Move, move, move-eval, move-locate, move-pass, move-exec, move-arms, move-turn, weight, Sound-move}
+use Rattle.machine.specs.Moves.{After, After-move, Kept-by-moves, Move, move, move-eval, move-locate, move-pass, move-exec, move-arms, move-turn}
 use Rattle.machine.specs.Moves.Move.{rests, moves}
-use Rattle.machine.specs.Height.{expr-room, stmt-room, parts-room, peak, height, Low-next, Low-move, Low-now}
+use Rattle.machine.specs.Height.{expr-room, stmt-room, parts-room, peak, height, Low}
 use Rattle.machine.specs.Theorems.{Stays-low}
-use Rattle.machine.proofs.Moves.{moves-find}
+use Rattle.machine.proofs.Keeps.{calls-keep}
 
 length-low : (k : List Task) → length k ≤ peak k
 length-low [] = omega arith
 length-low (t ∷ k) = omega arith
 
-eval-low : (e : Expr) (k : List Task) (h : Held) → Low-move (peak (to-eval e ∷ k)) (move-eval e k h)
+eval-low : (e : Expr) (k : List Task) (h : Held) → After-move (Low (peak (to-eval e ∷ k))) (move-eval e k h)
 eval-low (constant at v) k h = λ v. omega arith
 eval-low (value at t x) k h = omega arith
 eval-low (register at t a) k h = λ v. omega arith
@@ -46,17 +38,17 @@ eval-low (binary at o t a b) k h = omega arith
 eval-low (junction at j a b) k h = omega arith
 eval-low (apply at p xs) k h = omega arith
 
-locate-low : (taken : Bool) (x : Designator) (k : List Task) (h : Held) → Low-move (peak (to-locate taken x ∷ k)) (move-locate taken x k h)
+locate-low : (taken : Bool) (x : Designator) (k : List Task) (h : Held) → After-move (Low (peak (to-locate taken x ∷ k))) (move-locate taken x k h)
 locate-low taken (whole n) k h = omega arith
 locate-low taken (element at x w low high s e) k h = omega arith
 locate-low taken (part at x w fs o) k h = omega arith
 
-pass-low : (xs : Actuals) (k : List Task) (h : Held) → Low-move (peak (to-pass xs ∷ k)) (move-pass xs k h)
+pass-low : (xs : Actuals) (k : List Task) (h : Held) → After-move (Low (peak (to-pass xs ∷ k))) (move-pass xs k h)
 pass-low no-more k h = omega arith
 pass-low (a-value e xs) k h = omega arith
 pass-low (a-variable x xs) k h = omega arith
 
-exec-low : (s : Stmt) (k : List Task) (h : Held) → Low-move (peak (to-exec s ∷ k)) (move-exec s k h)
+exec-low : (s : Stmt) (k : List Task) (h : Held) → After-move (Low (peak (to-exec s ∷ k))) (move-exec s k h)
 exec-low skip k h = omega arith
 exec-low (seq a b) k h = omega arith
 exec-low (assign at t x e) k h = omega arith
@@ -67,7 +59,7 @@ exec-low (repeat at s q e) k h = λ v. omega arith
 exec-low (loop at b) k h = λ v. omega arith
 exec-low (call at p xs) k h = omega arith
 
-arms-low : (xs : Arms) (k : List Task) (h : Held) → Low-move (peak (to-arms xs ∷ k)) (move-arms xs k h)
+arms-low : (xs : Arms) (k : List Task) (h : Held) → After-move (Low (peak (to-arms xs ∷ k))) (move-arms xs k h)
 arms-low (otherwise s) k h = omega arith
 arms-low (arm at e s xs) k h = omega arith
 
@@ -96,7 +88,7 @@ when-low n k a b c d l p h q =
     sums : (m e : ℕ) → suc k + m ≤ n → e ≤ m → suc (suc a) ≤ m → suc b ≤ m → max (suc (suc (suc k)) + a) (max (suc (suc k) + b) (max (suc k + e) p)) ≤ n
     sums m e h w x y = omega arith
 
-turn-low : (b : Parts) (l : Stmt) (k : List Task) (h : Held) → Low-move (peak (to-turn b l ∷ k)) (move-turn b l k h)
+turn-low : (b : Parts) (l : Stmt) (k : List Task) (h : Held) → After-move (Low (peak (to-turn b l ∷ k))) (move-turn b l k h)
 turn-low (ends s) l k h = omega arith
 turn-low (exits s at e s′ b) l k h =
     when-low _ (length k) (stmt-room s) (expr-room e) (suc (stmt-room s′)) (parts-room b) (stmt-room l) (peak k) (left-below _ _) (right-below _ _)
@@ -106,13 +98,13 @@ either-low : (b : Bool) (n : ℕ) (c c′ : Config) → peak (c .tasks) ≤ n �
 either-low true n c c′ p q = p
 either-low false n c c′ p q = q
 
-apply-low : (p : Function) (at : At) (n : ℕ) (k : List Task) (h : Held) → Low-next (peak (to-apply at p n ∷ k)) (next-apply p at n k h)
+apply-low : (p : Function) (at : At) (n : ℕ) (k : List Task) (h : Held) → After (Low (peak (to-apply at p n ∷ k))) (next-apply p at n k h)
 apply-low (function m fs r t vs body) at n k h = λ v. omega arith
 
-call-low : (p : Procedure) (at : At) (n : ℕ) (k : List Task) (h : Held) → Low-next (peak (to-call at p n ∷ k)) (next-call p at n k h)
+call-low : (p : Procedure) (at : At) (n : ℕ) (k : List Task) (h : Held) → After (Low (peak (to-call at p n ∷ k))) (next-call p at n k h)
 call-low (procedure m fs vs body) at n k h = λ v. omega arith
 
-move-low : (k : List Task) (h : Held) → Low-move (peak k) (move k h)
+move-low : (k : List Task) (h : Held) → After-move (Low (peak k)) (move k h)
 move-low [] h = tt
 move-low (to-eval e ∷ k) h = eval-low e k h
 move-low (to-locate taken x ∷ k) h = locate-low taken x k h
@@ -140,53 +132,16 @@ move-low (to-call at p n ∷ k) h = call-low p at n k h
 move-low (to-leave at ∷ k) h = λ v. omega arith
 move-low (to-leave-with at r t ∷ k) h = λ v. omega arith
 
-next-weaker : (n m : ℕ) → n ≤ m → (x : Next) → Low-next n x → Low-next m x
-next-weaker n m l none h = tt
-next-weaker n m l (acts at d a c) h = λ v. let p = h v in omega arith
-next-weaker n m l (awaits a t c) h = λ v. let p = h v in omega arith
-next-weaker n m l (offers a v c) h = omega arith
+-- a list of tasks that gets no higher than n
+weaker : (n m : ℕ) → n ≤ m → (x : Move) → After-move (Low n) x → After-move (Low m) x
+weaker n m l (rests none) h = tt
+weaker n m l (rests (acts at d a c)) h = λ v. let p = h v in omega arith
+weaker n m l (rests (awaits a t c)) h = λ v. let p = h v in omega arith
+weaker n m l (rests (offers a v c)) h = omega arith
+weaker n m l (moves k h) p = omega arith
 
--- the next action, which is found by moves of falling weight
-next-by : (w : ℕ) (k : List Task) (h : Held) → weight k < suc w
-    → ((k′ : List Task) (h′ : Held) → weight k′ < w → Low-next (peak k′) (next-of k′ h′))
-    → (m : Move) → Sound-move k h m → Low-move (peak k) m → Low-next (peak k) (next-of k h)
-next-by w k h l deeper (rests x) s p = subst (Low-next (peak k)) (sym s) p
-next-by w k h l deeper (moves k′ h′) s p =
-    subst (Low-next (peak k)) (sym (s .0)) (next-weaker (peak k′) (peak k) p (next-of k′ h′) (deeper k′ h′ (let q = s .1 in omega arith)))
-
-next-low : (w : ℕ) (k : List Task) (h : Held) → weight k < w → Low-next (peak k) (next-of k h)
-next-low zero k h l = absurd (omega arith)
-next-low (suc w) k h l = next-by w k h l (next-low w) (move k h) (moves-find k h) (move-low k h)
-
--- and so after each call
-acted-low : (n : ℕ) (k : Config → Now) (c₀ : Config) (at : At) (d : ℕ) (a : Action) (c : ℤ → Config) (σ : Cells) (r : Result ℤ Trap)
-    → ((v : ℤ) → Low-now n (k (c v))) → Low-now n (moved-on k c₀ (acted at d a c σ r))
-acted-low n k c₀ at d a c σ (Ok v) h = h v
-acted-low n k c₀ at d a c σ (Err t) h = tt
-
-given-low : (n : ℕ) (k : Config → Now) (c₀ c : Config) (l : Line) (b : Bool) → Low-now n (k c₀) → Low-now n (k c)
-    → Low-now n (moved-on k c₀ (cond b (went-on l c) refused))
-given-low n k c₀ c l true p q = q
-given-low n k c₀ c l false p q = p
-
-answer-low : (n : ℕ) (k : Config → Now) (c : Config) → Low-now n (k c) → ((c : Config) → peak (c .tasks) ≤ n → Low-now n (k c))
-    → (x : Next) → Low-next n x → (e : Event) → Low-now n (moved-on k c (answer x e))
-answer-low n k c same f none h e = same
-answer-low n k c same f (acts at d a c′) h (step σ) = acted-low n k c at d a c′ σ (outcome d a σ) (λ v. f (c′ v) (h v))
-answer-low n k c same f (acts at d a c′) h (give v) = same
-answer-low n k c same f (acts at d a c′) h took = same
-answer-low n k c same f (awaits a t c′) h (step σ) = same
-answer-low n k c same f (awaits a t c′) h (give v) = given-low n k c (c′ v) _ (fits t v) same (f (c′ v) (h v))
-answer-low n k c same f (awaits a t c′) h took = same
-answer-low n k c same f (offers a v c′) h (step σ) = same
-answer-low n k c same f (offers a v c′) h (give w) = same
-answer-low n k c same f (offers a v c′) h took = f c′ h
-
-arrives-low : (n : ℕ) (es : List Event) (c : Config) → peak (c .tasks) ≤ n → Low-now n (arrives c es)
-arrives-low n [] c p = (let q = length-low (c .tasks) in omega arith, p)
-arrives-low n (e ∷ es) c p =
-    answer-low n (λ c. arrives c es) c (arrives-low n es c p) (arrives-low n es) (next c)
-    (next-weaker (peak (c .tasks)) n p (next c) (next-low (suc (weight (c .tasks))) (c .tasks) (c .held) (omega arith))) e
+moves-low : (n : ℕ) → Kept-by-moves (Low n)
+moves-low n k h i = weaker (peak k) n i (move k h) (move-low k h)
 
 pub stays-low : Stays-low
-stays-low = (length-low, move-low, λ P es. arrives-low (height P) es (start P) (omega arith))
+stays-low = (length-low, moves-low, λ P es. calls-keep (Low (height P)) (moves-low (height P)) es (start P) (omega arith))

@@ -2,7 +2,6 @@
 use Prim.Native.Nat.{ℕ, suc, _+_, _≤_, max}
 use mathlib.Core.List.{List, [], _∷_}
 use lib.ListN.{length}
-use lib.IntN.{ℤ}
 use Rattle.program.specs.Trees.{Expr, Designator, Actuals, Stmt, Arms, Parts, Procedure, Function, Program}
 use Rattle.program.specs.Trees.Expr.{constant, value, register, unary, binary, junction, apply}
 use Rattle.program.specs.Trees.Designator.{whole, element, part}
@@ -13,12 +12,8 @@ use Rattle.program.specs.Trees.Parts.{ends, exits}
 use Rattle.program.specs.Trees.Procedure.{procedure}
 use Rattle.program.specs.Trees.Function.{function}
 use Rattle.meaning.specs.Meaning.{whole-body}
-use Rattle.machine.specs.Machine.{Task, Next, Now}
+use Rattle.machine.specs.Machine.{Task, Config}
 use Rattle.machine.specs.Machine.Task.{to-eval, to-locate, to-pass, to-exec, to-arms, to-turn, to-take, to-receive, to-sign, to-operate, to-decide, to-index, to-select, to-store, to-write, to-deliver, to-test, to-while, to-until, to-exit, to-close, to-apply, to-call, to-leave, to-leave-with}
-use Rattle.machine.specs.Machine.Next.{none, acts, awaits, offers}
-use Rattle.machine.specs.Machine.Now.{there, fallen}
-use Rattle.machine.specs.Moves.{Move}
-use Rattle.machine.specs.Moves.Move.{rests, moves}
 
 -- how many places more than its own a part takes until it is over
 abbrev mutual
@@ -102,17 +97,6 @@ peak (t ∷ k) = max (suc (length k) + task-room t) (peak k)
 abbrev pub height : Program → ℕ
 height P = suc (stmt-room (whole-body (P .bodies)))
 
--- whatever is left after the next action gets no higher than n
-abbrev pub Low-next : ℕ → Next → Type 0
-Low-next n none = Unit {0}
-Low-next n (acts at d a c) = (v : ℤ) → peak (c v .tasks) ≤ n
-Low-next n (awaits a t c) = (v : ℤ) → peak (c v .tasks) ≤ n
-Low-next n (offers a v c) = peak (c .tasks) ≤ n
-
-abbrev pub Low-move : ℕ → Move → Type 0
-Low-move n (rests x) = Low-next n x
-Low-move n (moves k h) = peak k ≤ n
-
-abbrev pub Low-now : ℕ → Now → Type 0
-Low-now n (there c) = (length (c .tasks) ≤ n) × (peak (c .tasks) ≤ n)
-Low-now n (fallen t p) = Unit {0}
+-- the list of tasks gets no higher than n
+abbrev pub Low : ℕ → Config → Type 0
+Low n c = peak (c .tasks) ≤ n

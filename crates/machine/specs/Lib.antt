@@ -2,4 +2,6 @@
 pub mod Machine
 pub mod Moves
 pub mod Height
+pub mod Waiting
+pub mod Opened
 pub mod Theorems

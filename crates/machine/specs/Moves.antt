@@ -2,6 +2,7 @@
 use Prim.Native.Nat.{ℕ, suc, _+_, _<_}
 use mathlib.Core.Path.{_≡_}
 use mathlib.Core.Bool.{Bool, true, false}
+use lib.IntN.{ℤ}
 use mathlib.Core.List.{List, [], _∷_}
 use Rattle.program.specs.Trees.{Expr, Designator, Actuals, Stmt, Arms, Parts}
 use Rattle.program.specs.Trees.Expr.{constant, value, register, unary, binary, junction, apply}
@@ -13,9 +14,10 @@ use Rattle.program.specs.Trees.Parts.{ends, exits}
 use Rattle.meaning.specs.Actions.Item.{val, ref}
 use Rattle.meaning.specs.Actions.Action.{a-constant, a-read, a-turn}
 use Rattle.meaning.specs.Meaning.{cell-of, way}
-use Rattle.machine.specs.Machine.{Task, Held, Next, the-cell, the-way, top, push, pop, opens, closes, formals, then, how-many, next-of}
+use Rattle.machine.specs.Machine.{Task, Held, Next, the-cell, the-way, top, push, pop, opens, closes, formals, then, how-many, next-of, Config, Now}
 use Rattle.machine.specs.Machine.Task.{to-eval, to-locate, to-pass, to-exec, to-arms, to-turn, to-take, to-receive, to-sign, to-operate, to-decide, to-index, to-select, to-store, to-write, to-deliver, to-test, to-while, to-until, to-exit, to-close, to-apply, to-call, to-leave, to-leave-with}
-use Rattle.machine.specs.Machine.Next.{none, acts}
+use Rattle.machine.specs.Machine.Now.{there, fallen}
+use Rattle.machine.specs.Machine.Next.{none, acts, awaits, offers}
 
 pub data Move : Type 0 where
   rests : Next → Move
@@ -163,3 +165,23 @@ weight (t ∷ k) = task-weight t + weight k
 abbrev pub Sound-move : List Task → Held → Move → Type 0
 Sound-move k h (rests n) = next-of k h ≡ n
 Sound-move k h (moves k′ h′) = (next-of k h ≡ next-of k′ h′) × (weight k′ < weight k)
+
+-- what X says of a configuration holds after the next action or call, whatever that gives
+abbrev pub After : (Config → Type 0) → Next → Type 0
+After X none = Unit {0}
+After X (acts at d a c) = (v : ℤ) → X (c v)
+After X (awaits a t c) = (v : ℤ) → X (c v)
+After X (offers a v c) = X c
+
+abbrev pub After-move : (Config → Type 0) → Move → Type 0
+After-move X (rests n) = After X n
+After-move X (moves k h) = X (then k h)
+
+-- where a move is made, X holds after it if it held before
+abbrev pub Kept-by-moves : (Config → Type 0) → Type 0
+Kept-by-moves X = (k : List Task) (h : Held) → X (then k h) → After-move X (move k h)
+
+-- X holds where the machine is now
+abbrev pub Holds : (Config → Type 0) → Now → Type 0
+Holds X (there c) = X c
+Holds X (fallen t p) = Unit {0}

@@ -1,5 +1,5 @@
 -- What is proved of the machine.
-use Prim.Native.Nat.{_≤_}
+use Prim.Native.Nat.{ℕ, _≤_}
 use mathlib.Core.Path.{_≡_}
 use mathlib.Core.List.{List}
 use lib.ListN.{length}
@@ -7,8 +7,10 @@ use Rattle.program.specs.Trees.{Program}
 use Rattle.meaning.specs.Actions.{Event}
 use Rattle.meaning.specs.Meaning.{meaning}
 use Rattle.machine.specs.Machine.{Task, Held, run, start, arrives}
-use Rattle.machine.specs.Moves.{move, Sound-move}
-use Rattle.machine.specs.Height.{peak, height, Low-move, Low-now}
+use Rattle.machine.specs.Moves.{move, Sound-move, Kept-by-moves, Holds}
+use Rattle.machine.specs.Opened.{leaves-in, Covered}
+use Rattle.machine.specs.Waiting.{waits, Few}
+use Rattle.machine.specs.Height.{peak, height, Low}
 
 -- On every sequence of calls the machine does exactly the actions of the meaning, and comes to the same state.
 abbrev pub Simulates : Type 0
@@ -22,5 +24,18 @@ Moves-find = (k : List Task) (h : Held) → Sound-move k h (move k h)
 abbrev pub Stays-low : Type 0
 Stays-low =
     ((k : List Task) → length k ≤ peak k)
-    × ((k : List Task) (h : Held) → Low-move (peak k) (move k h))
-    × ((P : Program) (es : List Event) → Low-now (height P) (arrives (start P) es))
+    × ((n : ℕ) → Kept-by-moves (Low n))
+    × ((P : Program) (es : List Event) → Holds (Low (height P)) (arrives (start P) es))
+
+-- No move lets more wait than was reckoned for its list of tasks, and after all calls no more wait than was reckoned for the program.
+abbrev pub Few-wait : Type 0
+Few-wait =
+    ((n : ℕ) → Kept-by-moves (Few n))
+    × ((P : Program) (es : List Event) → Holds (Few (waits P)) (arrives (start P) es))
+
+-- There are no more leaves to be done than tasks, and every open call has its leave among them, at every move and after all calls.
+abbrev pub Calls-covered : Type 0
+Calls-covered =
+    ((k : List Task) → leaves-in k ≤ length k)
+    × Kept-by-moves Covered
+    × ((P : Program) (es : List Event) → Holds Covered (arrives (start P) es))

@@ -1,7 +1,7 @@
 // The step machine, as definitions of specs/; each function stands for a theorem on it, which is its contract.
 ghost use mathlib.Core.Path.{_≡_};
 ghost use mathlib.Core.Bool.{true};
-ghost use Rattle.machine.specs.Theorems.{Simulates, Moves-find, Stays-low};
+ghost use Rattle.machine.specs.Theorems.{Simulates, Moves-find, Stays-low, Few-wait, Calls-covered};
 ghost use Rattle.meaning.specs.Order.{In-order};
 
 // The machine does exactly the actions of the meaning, on every sequence of calls.
@@ -30,4 +30,18 @@ pub fn stays_low() -> bool
     ensures { λ r. ⌜ (r ≡ true) × Stays-low ⌝ }
 {
     true // at every call and between them
+}
+
+// No more values and variables wait than what was reckoned from the program.
+pub fn few_wait() -> bool
+    ensures { λ r. ⌜ (r ≡ true) × Few-wait ⌝ }
+{
+    true // before every action too
+}
+
+// Every open call has its leave among the tasks, so no more calls are open than there are tasks.
+pub fn calls_covered() -> bool
+    ensures { λ r. ⌜ (r ≡ true) × Calls-covered ⌝ }
+{
+    true // entered and left together
 }
