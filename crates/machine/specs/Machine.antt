@@ -68,14 +68,17 @@ pub record Config : Type 0 where
   pub tasks : List Task
   pub held : Held
 
+-- what lies on top of a list, or else a
 abbrev pub first : {A : Type 0} → A → List A → A
 first a [] = a
 first a (x ∷ xs) = x
 
+-- by clauses, so that a push and then a pop compute away
 abbrev pub one-less : ℕ → ℕ
 one-less zero = zero
 one-less (suc n) = n
 
+-- of what waits on top; a well-formed program never asks for what is not there
 abbrev pub the-value : Item → ℤ
 the-value (val v) = v
 the-value (ref c w) = pos 0
@@ -91,6 +94,7 @@ the-way (ref c w) = w
 abbrev pub top : Held → Item
 top h = first (val (pos 0)) (h .waiting)
 
+-- something begins to wait, and waits no more
 abbrev pub push : Item → Held → Held
 push i h = record { waiting = i ∷ h .waiting; depth = suc (h .depth); lents = h .lents }
 
@@ -101,18 +105,21 @@ abbrev pub pops : ℕ → Held → Held
 pops zero h = h
 pops (suc n) h = pops n (pop h)
 
+-- a statement is opened and closed; a register that is a target too
 abbrev pub opens : Held → Held
 opens h = record { waiting = h .waiting; depth = suc (h .depth); lents = h .lents }
 
 abbrev pub closes : Held → Held
 closes h = record { waiting = h .waiting; depth = one-less (h .depth); lents = h .lents }
 
+-- a call is entered and left
 abbrev pub enters : List Item → Held → Held
 enters is h = record { waiting = h .waiting; depth = suc (h .depth); lents = lent is ∷ h .lents }
 
 abbrev pub leaves : Held → Held
 leaves h = record { waiting = h .waiting; depth = one-less (h .depth); lents = tail (h .lents) }
 
+-- the cells that the var formals of the innermost call stand for
 abbrev pub formals : Held → List ℕ
 formals h = first [] (h .lents)
 
@@ -245,6 +252,7 @@ next-task (to-leave at) k r h = acts at ((leaves h) .depth) a-leave (λ _. then 
 next-task (to-leave-with at result t) k r h =
     acts at (suc ((leaves h) .depth)) (a-leave-with result t) (λ v. then k (push (val v) (leaves h)))
 
+-- the next action of a list of tasks
 abbrev pub next-of : List Task → Held → Next
 next-of [] h = none
 next-of (t ∷ k) h = next-task t k (next-of k) h

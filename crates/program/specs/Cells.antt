@@ -23,6 +23,7 @@ pub record Cell : Type 0 where
 abbrev pub cell : ℕ → Bool → Simple → Cell
 cell m b t = record { type = t; owner = m; fixed = b }
 
+-- one list n times over
 abbrev pub copies : {A : Type 0} → ℕ → List A → List A
 copies zero l = []
 copies (suc n) l = l ++ copies n l
@@ -46,6 +47,7 @@ cells-of (x ∷ xs) = flat (cell (x .inside) (x .fixed)) (x .shape) ++ cells-of 
 abbrev pub table : Program → List Cell
 table P = cells-of (P .variables)
 
+-- the table says this of the cell c
 abbrev pub Cell-at : Program → ℕ → Cell → Type 0
 Cell-at P c x = getElem? (table P) c ≡ some x
 

@@ -7,6 +7,7 @@ use mathlib.Core.Logic.{_⊎_}
 use lib.IntN.{ℤ, pos, natAbs, _-ℤ_}
 use lib.Signed.{leZ}
 use lib.Dec.{leb}
+use Rattle.integer.specs.Integers.{greatest}
 
 -- the simple types; an enumeration has its writing and its last value
 pub data Simple : Type 0 where
@@ -51,12 +52,13 @@ abbrev mutual
   sane-fields no-field = true
   sane-fields (field-and s fs) = sane s && sane-fields fs
 
+-- from the low bound to the high one
 abbrev pub within : ℤ → ℤ → ℤ → Bool
 within low high v = leZ low v && leZ v high
 
--- the values of a simple type; an integer is from -2147483647 to 2147483647
+-- the values of a simple type
 abbrev pub fits : Simple → ℤ → Bool
-fits integer v = leb (natAbs v) 2147483647
+fits integer v = leb (natAbs v) greatest
 fits boolean v = within (pos 0) (pos 1) v
 fits char v = within (pos 0) (pos 127) v
 fits (enumeration writing last) v = within (pos 0) (pos last) v

@@ -26,6 +26,7 @@ use Rattle.program.specs.Trees.Procedure.{procedure}
 use Rattle.program.specs.Trees.Function.{function}
 use Rattle.program.specs.Cells.{Dealt, part-of, table}
 
+-- x is one of these
 abbrev pub Among : Variable → List Variable → Type 0
 Among x [] = ⊥
 Among x (y ∷ ys) = (x ≡ y) ⊎ Among x ys
