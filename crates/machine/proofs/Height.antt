@@ -30,7 +30,7 @@ length-low [] = omega arith
 length-low (t ∷ k) = omega arith
 
 eval-low : (e : Expr) (k : List Task) (h : Held) → After-move (Low (peak (to-eval e ∷ k))) (move-eval e k h)
-eval-low (constant at v) k h = λ v. omega arith
+eval-low (constant at u v) k h = λ v. omega arith
 eval-low (value at t x) k h = omega arith
 eval-low (register at t a) k h = λ v. omega arith
 eval-low (unary at g e) k h = omega arith

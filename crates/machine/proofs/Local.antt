@@ -154,7 +154,7 @@ exits-agree n false m p p′ k k′ h g = g
 -- the parts of a tree
 mutual
   pub eval-local : (ls : List ℕ) (d : ℕ) (e : Expr) → Local (eval ls d e)
-  eval-local ls d (constant at v) n k k′ h = act-local at _ _ n k k′ h
+  eval-local ls d (constant at u v) n k k′ h = act-local at _ _ n k k′ h
   eval-local ls d (value at t x) n k k′ h = locate-local true ls d x n _ _ λ c. act-local at _ _ n k k′ h
   eval-local ls d (register at t a) n k k′ h = act-local at _ _ n _ _ λ _. await-local a t n k k′ h
   eval-local ls d (unary at g e) n k k′ h = eval-local ls d e n _ _ λ v. act-local at _ _ n k k′ h

@@ -16,7 +16,7 @@ use Rattle.machine.specs.Moves.{move-eval, move-locate, move-pass, move-exec, 
 use Rattle.machine.specs.Theorems.{Moves-find}
 
 eval-move : (e : Expr) (k : List Task) (h : Held) → Sound-move (to-eval e ∷ k) h (move-eval e k h)
-eval-move (constant at v) k h = refl
+eval-move (constant at u v) k h = refl
 eval-move (value at t x) k h = (refl, omega arith)
 eval-move (register at t a) k h = refl
 eval-move (unary at g e) k h = (refl, omega arith)

@@ -64,7 +64,7 @@ pops-lents zero h = refl
 pops-lents (suc n) h = pops-lents n (pop h)
 
 eval-covered : (e : Expr) (k : List Task) (h : Held) → Covered (then (to-eval e ∷ k) h) → After-move Covered (move-eval e k h)
-eval-covered (constant at v) k h i = λ v. omega arith
+eval-covered (constant at u v) k h i = λ v. omega arith
 eval-covered (value at t x) k h i = omega arith
 eval-covered (register at t a) k h i = λ v. omega arith
 eval-covered (unary at g e) k h i = omega arith

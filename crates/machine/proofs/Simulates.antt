@@ -172,7 +172,7 @@ call-next (procedure m fs vs body) at n k h = refl
 
 mutual
   eval-next : (e : Expr) (k : List Task) (h : Held) → perform (to-eval e) h (resume k) ≡ behaves (next-eval e k h)
-  eval-next (constant at v) k h = refl
+  eval-next (constant at u v) k h = refl
   eval-next (value at t x) k h = locate-next true x (to-take at t ∷ k) (next-take at t k) (λ h. refl) h
   eval-next (register at t a) k h = refl
   eval-next (unary at g e) k h = eval-next e (to-sign at g ∷ k) h

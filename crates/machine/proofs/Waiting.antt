@@ -64,7 +64,7 @@ few-at : (n : ℕ) (k : List Task) (w v : ℕ) → w ≡ v → v ≤ n → reach
 few-at n k w v e p q = (subst (λ x. x ≤ n) (sym e) p, subst (λ x. reach k x ≤ n) (sym e) q)
 
 eval-few : (n : ℕ) (e : Expr) (k : List Task) (h : Held) → Few n (then (to-eval e ∷ k) h) → After-move (Few n) (move-eval e k h)
-eval-few n (constant at v) k h i = λ v. omega arith
+eval-few n (constant at u v) k h i = λ v. omega arith
 eval-few n (value at t x) k h i = omega arith
 eval-few n (register at t a) k h i = λ v. omega arith
 eval-few n (unary at g e) k h i = omega arith

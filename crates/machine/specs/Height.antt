@@ -18,7 +18,7 @@ use Rattle.machine.specs.Machine.Task.{to-eval, to-locate, to-pass, to-exec, t
 -- how many places more than its own a part takes until it is over
 abbrev mutual
   pub expr-room : Expr → ℕ
-  expr-room (constant at v) = 0
+  expr-room (constant at u v) = 0
   expr-room (value at t x) = suc (designator-room x)
   expr-room (register at t a) = 0
   expr-room (unary at g e) = suc (expr-room e)

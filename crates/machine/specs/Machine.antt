@@ -157,7 +157,7 @@ next-call (procedure m fs vs body) at n k h =
 
 abbrev mutual
   pub next-eval : Expr → List Task → Held → Next
-  next-eval (constant at v) k h = acts at (suc (h .depth)) (a-constant v) (λ v. then k (push (val v) h))
+  next-eval (constant at u v) k h = acts at (suc (h .depth)) (a-constant v) (λ v. then k (push (val v) h))
   next-eval (value at t x) k h = next-locate true x (to-take at t ∷ k) (next-take at t k) h
   next-eval (register at t a) k h = acts at (suc (h .depth)) (a-read a t) (λ _. then (to-receive a t ∷ k) h)
   next-eval (unary at g e) k h = next-eval e (to-sign at g ∷ k) h

@@ -24,7 +24,7 @@ pub data Move : Type 0 where
   moves : List Task → Held → Move
 
 abbrev pub move-eval : Expr → List Task → Held → Move
-move-eval (constant at v) k h = rests (acts at (suc (h .depth)) (a-constant v) (λ v. then k (push (val v) h)))
+move-eval (constant at u v) k h = rests (acts at (suc (h .depth)) (a-constant v) (λ v. then k (push (val v) h)))
 move-eval (value at t x) k h = moves (to-locate true x ∷ to-take at t ∷ k) h
 move-eval (register at t a) k h = rests (acts at (suc (h .depth)) (a-read a t) (λ _. then (to-receive a t ∷ k) h))
 move-eval (unary at g e) k h = moves (to-eval e ∷ to-sign at g ∷ k) h
@@ -92,7 +92,7 @@ move (to-leave-with at result t ∷ k) h = rests (next-of (to-leave-with at resu
 -- how many moves a part can make at most before it has acted or is over
 abbrev mutual
   pub expr-weight : Expr → ℕ
-  expr-weight (constant at v) = 0
+  expr-weight (constant at u v) = 0
   expr-weight (value at t x) = suc (designator-weight x)
   expr-weight (register at t a) = 0
   expr-weight (unary at g e) = suc (expr-weight e)

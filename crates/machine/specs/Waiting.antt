@@ -19,7 +19,7 @@ use Rattle.machine.specs.Machine.Task.{to-eval, to-locate, to-pass, to-exec, t
 -- how many more than before wait at most while a part is done
 abbrev mutual
   pub expr-waits : Expr → ℕ
-  expr-waits (constant at v) = 1
+  expr-waits (constant at u v) = 1
   expr-waits (value at t x) = max 1 (designator-waits x)
   expr-waits (register at t a) = 1
   expr-waits (unary at g e) = max 1 (expr-waits e)

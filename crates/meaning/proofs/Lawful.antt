@@ -237,8 +237,8 @@ module _ (P : Program) where
     mutual
       eval-safe : (o : List Open) (f : List Shape) (ls : List ℕ) → Stands o f ls
           → (d : ℕ) (e : Expr) (t : Simple) → ok-expr P f e t → Safe o (λ v. Fits t v × (suc d ≤ deepest)) (eval ls d e)
-      eval-safe o f ls st d (constant at v) t h k g =
-          act-good o at _ _ k tt λ σ w e. let r = outcome-ok _ _ σ w e in g w (subst (Fits t) (ok-inj (r .0)) h, r .2)
+      eval-safe o f ls st d (constant at u v) t h k g =
+          act-good o at _ _ k tt λ σ w e. let r = outcome-ok _ _ σ w e in g w (subst (Fits t) (ok-inj (r .0)) (h .1), r .2)
       eval-safe o f ls st d (value at u x) t h k g =
           locate-safe true o f ls st d none x (simple t) (h .1) _ λ c p. act-good o at _ _ k (subst (Is c) (sym (h .0)) (p .0)) λ σ v e.
           let r = outcome-ok _ _ σ v e in g v (subst (Fits t) (ok-inj (r .0)) (as-type (getD σ c (pos 0)) (sym (h .0)) (r .1)), r .2)

@@ -48,7 +48,7 @@ yard-w = const-formal (codes "w") integer 1 1
 
 abbrev yard-put-called : Procedure
 yard-put-called = procedure 1 (by-const yard-w integer ∷ []) [] (assign (at 111 1) boolean (whole (own yard-first)) (constant (at 120 1)
-    (pos 0)))
+    boolean (pos 0)))
 
 abbrev yard-first-2 : Variable
 yard-first-2 = variable (codes "first") (simple integer) 2 0
@@ -58,8 +58,8 @@ yard = record {
   modules = 0 ∷ 0 ∷ [];
   variables = yard-first ∷ yard-w ∷ yard-first-2 ∷ [];
   bodies = skip ∷ (seq (assign (at 177 0) integer
-      (whole (own yard-first-2)) (constant (at 186 0) (pos 4))) (call (at 189 0) yard-put-called (a-value (value (at 193 0) integer (whole
-      (own yard-first-2))) no-more))) ∷ [];
+      (whole (own yard-first-2)) (constant (at 186 0) integer (pos 4))) (call (at 189 0) yard-put-called (a-value (value (at 193 0) integer
+      (whole (own yard-first-2))) no-more))) ∷ [];
 }
 
 -- module m; var b: Boolean; begin b := false and (1 / 0 = 1) end m.
@@ -71,8 +71,8 @@ no-quotient = record {
   modules = 0 ∷ [];
   variables = no-quotient-b ∷ [];
   bodies = (assign (at 32 0) boolean (whole (own no-quotient-b))
-      (junction (at 37 0) and (constant (at 37 0) (pos 0)) (binary (at 48 0) eq integer (binary (at 48 0) over integer (constant (at 48 0)
-      (pos 1)) (constant (at 52 0) (pos 0))) (constant (at 56 0) (pos 1))))) ∷ [];
+      (junction (at 37 0) and (constant (at 37 0) boolean (pos 0)) (binary (at 48 0) eq integer (binary (at 48 0) over integer (constant (at
+      48 0) integer (pos 1)) (constant (at 52 0) integer (pos 0))) (constant (at 56 0) integer (pos 1))))) ∷ [];
 }
 
 -- module m; var x: integer; begin x := -15 div 4 end m.
@@ -84,7 +84,7 @@ sign-last = record {
   modules = 0 ∷ [];
   variables = sign-last-x ∷ [];
   bodies = (assign (at 32 0) integer (whole (own sign-last-x)) (unary (at
-      37 0) minus-sign (binary (at 38 0) div integer (constant (at 38 0) (pos 15)) (constant (at 45 0) (pos 4))))) ∷ [];
+      37 0) minus-sign (binary (at 38 0) div integer (constant (at 38 0) integer (pos 15)) (constant (at 45 0) integer (pos 4))))) ∷ [];
 }
 
 -- module m; var x: integer; begin x := 7 - 2 end m.
@@ -96,7 +96,7 @@ left-then-right = record {
   modules = 0 ∷ [];
   variables = left-then-right-x ∷ [];
   bodies = (assign (at 32 0) integer (whole (own
-      left-then-right-x)) (binary (at 37 0) minus integer (constant (at 37 0) (pos 7)) (constant (at 41 0) (pos 2)))) ∷ [];
+      left-then-right-x)) (binary (at 37 0) minus integer (constant (at 37 0) integer (pos 7)) (constant (at 41 0) integer (pos 2)))) ∷ [];
 }
 
 -- module m; var a: array 1:1 of integer; begin a[2] := 1 / 0 end m.
@@ -108,8 +108,8 @@ index-first = record {
   modules = 0 ∷ [];
   variables = index-first-a ∷ [];
   bodies = (assign (at 45 0) integer (element (at 45 0) (whole (own
-      index-first-a)) (writing 0 0) (pos 1) (pos 1) (simple integer) (constant (at 47 0) (pos 2))) (binary (at 53 0) over integer (constant
-      (at 53 0) (pos 1)) (constant (at 57 0) (pos 0)))) ∷ [];
+      index-first-a)) (writing 0 0) (pos 1) (pos 1) (simple integer) (constant (at 47 0) integer (pos 2))) (binary (at 53 0) over integer
+      (constant (at 53 0) integer (pos 1)) (constant (at 57 0) integer (pos 0)))) ∷ [];
 }
 
 -- module m; var a: array 0:1 of integer; begin a[1] := 4 end m.
@@ -121,8 +121,8 @@ index-and-store = record {
   modules = 0 ∷ [];
   variables = index-and-store-a ∷ [];
   bodies = (assign (at 45 0) integer (element (at 45 0)
-      (whole (own index-and-store-a)) (writing 0 0) (pos 0) (pos 1) (simple integer) (constant (at 47 0) (pos 1))) (constant (at 53 0) (pos
-      4))) ∷ [];
+      (whole (own index-and-store-a)) (writing 0 0) (pos 0) (pos 1) (simple integer) (constant (at 47 0) integer (pos 1))) (constant (at 53 0)
+      integer (pos 4))) ∷ [];
 }
 
 -- module m; var i: integer; begin while i < 1 do i := i + 1 end end m.
@@ -134,8 +134,8 @@ turns = record {
   modules = 0 ∷ [];
   variables = turns-i ∷ [];
   bodies = (while (at 32 0) (at 38 0) (binary (at 38 0) lt integer (value (at 38
-      0) integer (whole (own turns-i))) (constant (at 42 0) (pos 1))) (assign (at 47 0) integer (whole (own turns-i)) (binary (at 52 0) plus
-      integer (value (at 52 0) integer (whole (own turns-i))) (constant (at 56 0) (pos 1))))) ∷ [];
+      0) integer (whole (own turns-i))) (constant (at 42 0) integer (pos 1))) (assign (at 47 0) integer (whole (own turns-i)) (binary (at 52
+      0) plus integer (value (at 52 0) integer (whole (own turns-i))) (constant (at 56 0) integer (pos 1))))) ∷ [];
 }
 
 -- device module m; var r[8]: integer; x: integer; begin x := r + 1 end m.
@@ -147,7 +147,7 @@ register-read = record {
   modules = 0 ∷ [];
   variables = register-read-x ∷ [];
   bodies = (assign (at 54 0) integer (whole (own
-      register-read-x)) (binary (at 59 0) plus integer (register (at 59 0) integer 8) (constant (at 63 0) (pos 1)))) ∷ [];
+      register-read-x)) (binary (at 59 0) plus integer (register (at 59 0) integer 8) (constant (at 63 0) integer (pos 1)))) ∷ [];
 }
 
 -- device module m; var r[8]: integer; x: integer; begin r := 1; x := 2 end m.
@@ -159,7 +159,7 @@ register-written = record {
   modules = 0 ∷ [];
   variables = register-written-x ∷ [];
   bodies = (seq (offer (at 54 0) integer 8 (constant (at 59
-      0) (pos 1))) (assign (at 62 0) integer (whole (own register-written-x)) (constant (at 67 0) (pos 2)))) ∷ [];
+      0) integer (pos 1))) (assign (at 62 0) integer (whole (own register-written-x)) (constant (at 67 0) integer (pos 2)))) ∷ [];
 }
 
 -- device module m; var r[8]: Boolean; b: Boolean; begin b := r end m.
@@ -184,7 +184,7 @@ onward-a = variable (codes "a") (array (writing 0 0) (pos 0) (pos 1) (simple int
 
 abbrev onward-p-called : Procedure
 onward-p-called = procedure 0 (by-var (simple integer) ∷ []) [] (seq (assign (at 86 0) integer (whole (own onward-i)) (constant (at 91 0)
-    (pos 1))) (assign (at 94 0) integer (whole (formal 0)) (constant (at 99 0) (pos 6))))
+    integer (pos 1))) (assign (at 94 0) integer (whole (formal 0)) (constant (at 99 0) integer (pos 6))))
 
 abbrev onward-q-called : Procedure
 onward-q-called = procedure 0 (by-var (simple integer) ∷ []) [] (call (at 143 0) onward-p-called (a-variable (whole (formal 0)) no-more))
@@ -204,13 +204,13 @@ abbrev part-onward-a : Variable
 part-onward-a = variable (codes "a") (array (writing 0 0) (pos 0) (pos 1) (simple integer)) 0 0
 
 abbrev part-onward-p-called : Procedure
-part-onward-p-called = procedure 0 (by-var (simple integer) ∷ []) [] (assign (at 86 0) integer (whole (formal 0)) (constant (at 91 0) (pos
-    6)))
+part-onward-p-called = procedure 0 (by-var (simple integer) ∷ []) [] (assign (at 86 0) integer (whole (formal 0)) (constant (at 91 0)
+    integer (pos 6)))
 
 abbrev part-onward-q-called : Procedure
 part-onward-q-called = procedure 0 (by-var (array (writing 0 0) (pos 0) (pos 1) (simple integer)) ∷ []) [] (call (at 129 0)
     part-onward-p-called (a-variable (element (at 131 0) (whole (formal 0)) (writing 0 0) (pos 0) (pos 1) (simple integer) (constant (at 133
-    0) (pos 1))) no-more))
+    0) integer (pos 1))) no-more))
 
 abbrev pub part-onward : Program
 part-onward = record {
@@ -237,8 +237,8 @@ entry-clears = record {
   modules = 0 ∷ [];
   variables = entry-clears-n ∷ entry-clears-a ∷ [];
   bodies = (seq (call (at 81 0)
-      entry-clears-p-called (a-value (constant (at 83 0) (pos 2)) no-more)) (call (at 87 0) entry-clears-p-called (a-value (constant (at 89 0)
-      (pos 3)) no-more))) ∷ [];
+      entry-clears-p-called (a-value (constant (at 83 0) integer (pos 2)) no-more)) (call (at 87 0) entry-clears-p-called (a-value (constant
+      (at 89 0) integer (pos 3)) no-more))) ∷ [];
 }
 
 -- The depth: f has 199 var formals and a const one, and x := f(x, .., x, f(x, .., x, 0C)) has 1 target, 398 variables and a value waiting, which
@@ -270,7 +270,7 @@ abbrev deep-call : (target outer inner constant : ℕ) → Stmt
 deep-call p o i c =
     assign (at p 0) char (whole (own deep-x))
     (apply (at o 0) deep-function (lend 199 (whole (own deep-x)) (a-value
-    (apply (at i 0) deep-function (lend 199 (whole (own deep-x)) (a-value (constant (at c 0) (pos 0)) no-more))) no-more)))
+    (apply (at i 0) deep-function (lend 199 (whole (own deep-x)) (a-value (constant (at c 0) char (pos 0)) no-more))) no-more)))
 
 abbrev deep-program : Stmt → Program
 deep-program s = record { modules = 0 ∷ []; variables = deep-x ∷ deep-n ∷ deep-result ∷ []; bodies = s ∷ [] }
@@ -279,7 +279,7 @@ abbrev pub depth-400 : Program
 depth-400 = deep-program (deep-call 1170 1175 1774 2373)
 
 abbrev pub depth-401 : Program
-depth-401 = deep-program (repeat (at 1170 0) (deep-call 1177 1182 1781 2380) (at 2391 0) (constant (at 2391 0) (pos 1)))
+depth-401 = deep-program (repeat (at 1170 0) (deep-call 1177 1182 1781 2380) (at 2391 0) (constant (at 2391 0) boolean (pos 1)))
 
 -- all of it; the table of divisions and traps first
 pub record Worked : Type 0 where

@@ -117,7 +117,7 @@ needed or v = not (truth v)
 abbrev mutual
   -- afterwards the value waits
   pub eval : List ℕ → ℕ → Expr → M ℤ
-  eval ls d (constant at v) = act at (suc d) (a-constant v)
+  eval ls d (constant at u v) = act at (suc d) (a-constant v)
   eval ls d (value at t x) = do
     c ← locate true ls d x
     act at (suc d) (a-take c t)

@@ -296,7 +296,7 @@ module _ (P : Program) where
 
   mutual
     expr-is : (f : List Shape) (e : Expr) (t : Simple) → Decides (expr-ok P f e t) (ok-expr P f e t)
-    expr-is f (constant at v) t = itself (fits t v)
+    expr-is f (constant at u v) t = two (same-simple u t) (fits t v) (simple-is u t) (itself (fits t v))
     expr-is f (value at u x) t = two (same-simple u t) (designator-ok P f none x (simple t)) (simple-is u t) (designator-is f none x (simple t))
     expr-is f (register at u a) t = two (same-simple u t) (address a) (simple-is u t) (itself (address a))
     expr-is f (unary at g e) t = two (sign-ok g t) (expr-ok P f e t) (sign-is g t) (expr-is f e t)

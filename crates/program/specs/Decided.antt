@@ -150,7 +150,7 @@ address a = leb a 65535
 
 abbrev mutual
   pub expr-ok : Program → List Shape → Expr → Simple → Bool
-  expr-ok P f (constant at v) t = fits t v
+  expr-ok P f (constant at u v) t = same-simple u t && fits t v
   expr-ok P f (value at u x) t = same-simple u t && designator-ok P f none x (simple t)
   expr-ok P f (register at u a) t = same-simple u t && address a
   expr-ok P f (unary at g e) t = sign-ok g t && expr-ok P f e t

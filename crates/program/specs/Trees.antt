@@ -41,7 +41,8 @@ pub data Formal : Type 0 where
 
 mutual
   pub data Expr : Type 0 where
-    constant : At → ℤ → Expr
+    -- with its type
+    constant : At → Simple → ℤ → Expr
     value : At → Simple → Designator → Expr
     register : At → Simple → (address : ℕ) → Expr
     unary : At → Sign → Expr → Expr

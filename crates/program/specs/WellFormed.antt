@@ -107,7 +107,7 @@ Address a = T (leb a 65535)
 abbrev mutual
   -- the expression is of the type t
   pub ok-expr : Program → List Shape → Expr → Simple → Type 0
-  ok-expr P f (constant at v) t = T (fits t v)
+  ok-expr P f (constant at u v) t = (u ≡ t) × T (fits t v)
   ok-expr P f (value at u x) t = (u ≡ t) × ok-designator P f none x (simple t)
   ok-expr P f (register at u a) t = (u ≡ t) × Address a
   ok-expr P f (unary at g e) t = ok-sign g t × ok-expr P f e t

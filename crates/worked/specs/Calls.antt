@@ -5,7 +5,7 @@ use mathlib.Core.List.{[], _∷_}
 use lib.IntN.{pos}
 use lib.Chars.{codes}
 use Rattle.program.specs.Trees.{Variable, Procedure, Function, Program}
-use Rattle.program.specs.Types.Simple.{integer, char}
+use Rattle.program.specs.Types.Simple.{integer, boolean, char}
 use Rattle.program.specs.Types.Shape.{simple, array, record-of}
 use Rattle.program.specs.Types.Fields.{no-field, field-and}
 use Rattle.program.specs.Trees.Operator.{plus, times}
@@ -30,7 +30,8 @@ abbrev calls-1-f : Variable
 calls-1-f = variable (codes "f") (simple integer) 0 0
 
 abbrev calls-1-f-called : Function
-calls-1-f-called = function 0 [] calls-1-f integer [] (assign (at 38 0) integer (whole (own calls-1-f)) (constant (at 43 0) (pos 1)))
+calls-1-f-called = function 0 [] calls-1-f integer [] (assign (at 38 0) integer (whole (own calls-1-f)) (constant (at 43 0) integer (pos
+    1)))
 
 abbrev calls-1-x : Variable
 calls-1-x = variable (codes "x") (simple integer) 1 0
@@ -69,8 +70,8 @@ awaits-passing-1 = record {
   modules = 0 ∷ [];
   variables = awaits-passing-1-a ∷ awaits-passing-1-c ∷ awaits-passing-1-x ∷ [];
   bodies = (call
-      (at 92 0) awaits-passing-1-p-called (a-value (constant (at 94 0) (pos 1)) (a-variable (whole (own awaits-passing-1-x)) (a-value
-      (constant (at 100 0) (pos 2)) no-more)))) ∷ [];
+      (at 92 0) awaits-passing-1-p-called (a-value (constant (at 94 0) integer (pos 1)) (a-variable (whole (own awaits-passing-1-x)) (a-value
+      (constant (at 100 0) integer (pos 2)) no-more)))) ∷ [];
 }
 
 -- module m; procedure p(var a: char); end p; var x: array 1:2 of char; begin p(x[2]) end m.
@@ -85,8 +86,8 @@ awaits-passing-2 = record {
   modules = 0 ∷ [];
   variables = awaits-passing-2-x ∷ [];
   bodies = (call (at 75 0) awaits-passing-2-p-called
-      (a-variable (element (at 77 0) (whole (own awaits-passing-2-x)) (writing 0 0) (pos 1) (pos 2) (simple char) (constant (at 79 0) (pos
-      2))) no-more)) ∷ [];
+      (a-variable (element (at 77 0) (whole (own awaits-passing-2-x)) (writing 0 0) (pos 1) (pos 2) (simple char) (constant (at 79 0) integer
+      (pos 2))) no-more)) ∷ [];
 }
 
 -- module m; var x: integer; procedure f: integer; begin f := 2 end f; begin x := 1 + f end m.
@@ -98,26 +99,26 @@ open-bodies-1-f = variable (codes "f") (simple integer) 1 0
 
 abbrev open-bodies-1-f-called : Function
 open-bodies-1-f-called = function 0 [] open-bodies-1-f integer [] (assign (at 54 0) integer (whole (own open-bodies-1-f)) (constant (at 59
-    0) (pos 2)))
+    0) integer (pos 2)))
 
 abbrev pub open-bodies-1 : Program
 open-bodies-1 = record {
   modules = 0 ∷ [];
   variables = open-bodies-1-x ∷ open-bodies-1-f ∷ [];
   bodies = (assign (at 74 0) integer (whole
-      (own open-bodies-1-x)) (binary (at 79 0) plus integer (constant (at 79 0) (pos 1)) (apply (at 83 0) open-bodies-1-f-called no-more))) ∷
-      [];
+      (own open-bodies-1-x)) (binary (at 79 0) plus integer (constant (at 79 0) integer (pos 1)) (apply (at 83 0) open-bodies-1-f-called
+      no-more))) ∷ [];
 }
 
 -- module m; procedure p; begin loop when true exit end end p; begin if true then p end end m.
 abbrev open-bodies-2-p-called : Procedure
-open-bodies-2-p-called = procedure 0 [] [] (loop (at 29 0) (exits skip (at 39 0) (constant (at 39 0) (pos 1)) skip (ends skip)))
+open-bodies-2-p-called = procedure 0 [] [] (loop (at 29 0) (exits skip (at 39 0) (constant (at 39 0) boolean (pos 1)) skip (ends skip)))
 
 abbrev pub open-bodies-2 : Program
 open-bodies-2 = record {
   modules = 0 ∷ [];
   variables = [];
-  bodies = (if (arm (at 69 0) (constant (at 69 0) (pos 1)) (call (at 79 0)
+  bodies = (if (arm (at 69 0) (constant (at 69 0) boolean (pos 1)) (call (at 79 0)
       open-bodies-2-p-called no-more) (otherwise skip))) ∷ [];
 }
 
@@ -135,7 +136,7 @@ order-of-cells-b = variable (codes "b") (simple char) 2 0
 abbrev order-of-cells-f-called : Function
 order-of-cells-f-called = function 0 (by-const order-of-cells-a integer ∷ []) order-of-cells-f integer (order-of-cells-b ∷ []) (seq (assign
     (at 63 0) integer (whole (own order-of-cells-f)) (value (at 68 0) integer (whole (own order-of-cells-a)))) (assign (at 71 0) char (whole
-    (own order-of-cells-b)) (constant (at 76 0) (pos 1))))
+    (own order-of-cells-b)) (constant (at 76 0) char (pos 1))))
 
 abbrev order-of-cells-c : Variable
 order-of-cells-c = variable (codes "c") (simple integer) 3 0
@@ -150,9 +151,9 @@ order-of-cells = record {
   variables = order-of-cells-a ∷ order-of-cells-f ∷ order-of-cells-b ∷ order-of-cells-c ∷
       order-of-cells-d ∷ [];
   bodies = (seq (assign (at 153 0) integer (whole (own order-of-cells-c)) (apply (at 158 0) order-of-cells-f-called
-      (a-value (constant (at 160 0) (pos 9)) no-more))) (assign (at 164 0) char (element (at 164 0) (part (at 164 0) (whole (own
+      (a-value (constant (at 160 0) integer (pos 9)) no-more))) (assign (at 164 0) char (element (at 164 0) (part (at 164 0) (whole (own
       order-of-cells-d)) (writing 1 0) (field-and (simple char) (field-and (array (writing 0 0) (pos 0) (pos 1) (simple char)) no-field)) 1)
-      (writing 0 0) (pos 0) (pos 1) (simple char) (constant (at 168 0) (pos 0))) (constant (at 174 0) (pos 2)))) ∷ [];
+      (writing 0 0) (pos 0) (pos 1) (simple char) (constant (at 168 0) integer (pos 0))) (constant (at 174 0) char (pos 2)))) ∷ [];
 }
 
 -- module m; procedure f(a, b: integer): integer; begin f := a * 10 + b end f; var x: integer; begin x := f(1, f(2, 3)) end m.
@@ -168,7 +169,7 @@ call-in-actuals-f = variable (codes "f") (simple integer) 2 0
 abbrev call-in-actuals-f-called : Function
 call-in-actuals-f-called = function 0 (by-const call-in-actuals-a integer ∷ by-const call-in-actuals-b integer ∷ []) call-in-actuals-f
     integer [] (assign (at 53 0) integer (whole (own call-in-actuals-f)) (binary (at 58 0) plus integer (binary (at 58 0) times integer
-    (value (at 58 0) integer (whole (own call-in-actuals-a))) (constant (at 62 0) (pos 10))) (value (at 67 0) integer (whole (own
+    (value (at 58 0) integer (whole (own call-in-actuals-a))) (constant (at 62 0) integer (pos 10))) (value (at 67 0) integer (whole (own
     call-in-actuals-b)))))
 
 abbrev call-in-actuals-x : Variable
@@ -179,8 +180,8 @@ call-in-actuals = record {
   modules = 0 ∷ [];
   variables = call-in-actuals-a ∷ call-in-actuals-b ∷ call-in-actuals-f ∷ call-in-actuals-x ∷ [];
   bodies = (assign (at 98 0) integer (whole (own call-in-actuals-x)) (apply (at 103 0) call-in-actuals-f-called (a-value (constant (at 105
-      0) (pos 1)) (a-value (apply (at 108 0) call-in-actuals-f-called (a-value (constant (at 110 0) (pos 2)) (a-value (constant (at 113 0)
-      (pos 3)) no-more))) no-more)))) ∷ [];
+      0) integer (pos 1)) (a-value (apply (at 108 0) call-in-actuals-f-called (a-value (constant (at 110 0) integer (pos 2)) (a-value
+      (constant (at 113 0) integer (pos 3)) no-more))) no-more)))) ∷ [];
 }
 
 -- module m; var x: integer; procedure f: integer; begin if false then f := 1 end end f; begin x := f end m.
@@ -191,8 +192,8 @@ abbrev result-not-assigned-f : Variable
 result-not-assigned-f = variable (codes "f") (simple integer) 1 0
 
 abbrev result-not-assigned-f-called : Function
-result-not-assigned-f-called = function 0 [] result-not-assigned-f integer [] (if (arm (at 57 0) (constant (at 57 0) (pos 0)) (assign (at 68
-    0) integer (whole (own result-not-assigned-f)) (constant (at 73 0) (pos 1))) (otherwise skip)))
+result-not-assigned-f-called = function 0 [] result-not-assigned-f integer [] (if (arm (at 57 0) (constant (at 57 0) boolean (pos 0))
+    (assign (at 68 0) integer (whole (own result-not-assigned-f)) (constant (at 73 0) integer (pos 1))) (otherwise skip)))
 
 abbrev pub result-not-assigned : Program
 result-not-assigned = record {

@@ -36,7 +36,7 @@ actions = record {
   variables = actions-x ∷ actions-r ∷ [];
   bodies = (seq (assign (at 72 0) integer (whole (own actions-x))
       (unary (at 77 0) plus-sign (value (at 78 0) integer (part (at 78 0) (whole (own actions-r)) (writing 0 0) (field-and (simple integer)
-      no-field) 0)))) (assign (at 83 0) integer (whole (own actions-x)) (constant (at 89 0) (negsuc 4)))) ∷ [];
+      no-field) 0)))) (assign (at 83 0) integer (whole (own actions-x)) (constant (at 89 0) integer (negsuc 4)))) ∷ [];
 }
 
 -- module m; var a: array 1:2 of array 1:2 of integer; begin if (1) = a[2, 3] then end end m.
@@ -48,9 +48,9 @@ places = record {
   modules = 0 ∷ [];
   variables = places-a ∷ [];
   bodies = (if (arm (at 61 0) (binary (at 61 0) eq integer (constant (at 62 0)
-      (pos 1)) (value (at 67 0) integer (element (at 67 0) (element (at 67 0) (whole (own places-a)) (writing 1 0) (pos 1) (pos 2) (array
-      (writing 0 0) (pos 1) (pos 2) (simple integer)) (constant (at 69 0) (pos 2))) (writing 0 0) (pos 1) (pos 2) (simple integer) (constant
-      (at 72 0) (pos 3))))) skip (otherwise skip))) ∷ [];
+      integer (pos 1)) (value (at 67 0) integer (element (at 67 0) (element (at 67 0) (whole (own places-a)) (writing 1 0) (pos 1) (pos 2)
+      (array (writing 0 0) (pos 1) (pos 2) (simple integer)) (constant (at 69 0) integer (pos 2))) (writing 0 0) (pos 1) (pos 2) (simple
+      integer) (constant (at 72 0) integer (pos 3))))) skip (otherwise skip))) ∷ [];
 }
 
 -- module m; var x: integer; begin x := 1 + 2 end m.
@@ -62,7 +62,7 @@ depth-after = record {
   modules = 0 ∷ [];
   variables = depth-after-x ∷ [];
   bodies = (assign (at 32 0) integer (whole (own depth-after-x))
-      (binary (at 37 0) plus integer (constant (at 37 0) (pos 1)) (constant (at 41 0) (pos 2)))) ∷ [];
+      (binary (at 37 0) plus integer (constant (at 37 0) integer (pos 1)) (constant (at 41 0) integer (pos 2)))) ∷ [];
 }
 
 -- module m; var a: array 0:1 of integer; begin a[1] := 4 end m.
@@ -74,7 +74,8 @@ target-waits-1 = record {
   modules = 0 ∷ [];
   variables = target-waits-1-a ∷ [];
   bodies = (assign (at 45 0) integer (element (at 45 0) (whole
-      (own target-waits-1-a)) (writing 0 0) (pos 0) (pos 1) (simple integer) (constant (at 47 0) (pos 1))) (constant (at 53 0) (pos 4))) ∷ [];
+      (own target-waits-1-a)) (writing 0 0) (pos 0) (pos 1) (simple integer) (constant (at 47 0) integer (pos 1))) (constant (at 53 0) integer
+      (pos 4))) ∷ [];
 }
 
 -- module m; var a: array 0:1 of array 0:1 of integer; begin a[1, 0] := 4 end m.
@@ -87,8 +88,8 @@ target-waits-2 = record {
   variables = target-waits-2-a ∷ [];
   bodies = (assign (at 58 0) integer (element (at 58 0)
       (element (at 58 0) (whole (own target-waits-2-a)) (writing 1 0) (pos 0) (pos 1) (array (writing 0 0) (pos 0) (pos 1) (simple integer))
-      (constant (at 60 0) (pos 1))) (writing 0 0) (pos 0) (pos 1) (simple integer) (constant (at 63 0) (pos 0))) (constant (at 69 0) (pos 4)))
-      ∷ [];
+      (constant (at 60 0) integer (pos 1))) (writing 0 0) (pos 0) (pos 1) (simple integer) (constant (at 63 0) integer (pos 0))) (constant (at
+      69 0) integer (pos 4))) ∷ [];
 }
 
 -- module m; var a: array 0:1 of integer; x: integer; begin x := a[1] end m.
@@ -104,7 +105,7 @@ variable-in-expression-1 = record {
   variables = variable-in-expression-1-a ∷ variable-in-expression-1-x ∷ [];
   bodies =
       (assign (at 57 0) integer (whole (own variable-in-expression-1-x)) (value (at 62 0) integer (element (at 62 0) (whole (own
-      variable-in-expression-1-a)) (writing 0 0) (pos 0) (pos 1) (simple integer) (constant (at 64 0) (pos 1))))) ∷ [];
+      variable-in-expression-1-a)) (writing 0 0) (pos 0) (pos 1) (simple integer) (constant (at 64 0) integer (pos 1))))) ∷ [];
 }
 
 -- module m; var a: array 0:1 of array 0:1 of integer; x: integer; begin x := a[1, 0] end m.
@@ -122,7 +123,7 @@ variable-in-expression-2 = record {
   bodies =
       (assign (at 70 0) integer (whole (own variable-in-expression-2-x)) (value (at 75 0) integer (element (at 75 0) (element (at 75 0) (whole
       (own variable-in-expression-2-a)) (writing 1 0) (pos 0) (pos 1) (array (writing 0 0) (pos 0) (pos 1) (simple integer)) (constant (at 77
-      0) (pos 1))) (writing 0 0) (pos 0) (pos 1) (simple integer) (constant (at 80 0) (pos 0))))) ∷ [];
+      0) integer (pos 1))) (writing 0 0) (pos 0) (pos 1) (simple integer) (constant (at 80 0) integer (pos 0))))) ∷ [];
 }
 
 -- module m; begin if false then elsif true then end end m.
@@ -130,8 +131,8 @@ abbrev pub around-an-action-1 : Program
 around-an-action-1 = record {
   modules = 0 ∷ [];
   variables = [];
-  bodies = (if (arm (at 19 0) (constant (at 19 0) (pos 0)) skip (arm (at 36 0)
-      (constant (at 36 0) (pos 1)) skip (otherwise skip)))) ∷ [];
+  bodies = (if (arm (at 19 0) (constant (at 19 0) boolean (pos 0)) skip (arm
+      (at 36 0) (constant (at 36 0) boolean (pos 1)) skip (otherwise skip)))) ∷ [];
 }
 
 -- module m; begin while false do end end m.
@@ -139,7 +140,8 @@ abbrev pub around-an-action-2 : Program
 around-an-action-2 = record {
   modules = 0 ∷ [];
   variables = [];
-  bodies = (while (at 16 0) (at 22 0) (constant (at 22 0) (pos 0)) skip) ∷ [];
+  bodies = (while (at 16 0) (at 22 0) (constant (at 22 0) boolean (pos 0))
+      skip) ∷ [];
 }
 
 -- module m; begin repeat until true end m.
@@ -147,7 +149,8 @@ abbrev pub around-an-action-3 : Program
 around-an-action-3 = record {
   modules = 0 ∷ [];
   variables = [];
-  bodies = (repeat (at 16 0) skip (at 29 0) (constant (at 29 0) (pos 1))) ∷ [];
+  bodies = (repeat (at 16 0) skip (at 29 0) (constant (at 29 0) boolean (pos
+      1))) ∷ [];
 }
 
 -- module m; var b: Boolean; begin b := true and false end m.
@@ -159,7 +162,7 @@ and-or-1 = record {
   modules = 0 ∷ [];
   variables = and-or-1-b ∷ [];
   bodies = (assign (at 32 0) boolean (whole (own and-or-1-b)) (junction (at
-      37 0) and (constant (at 37 0) (pos 1)) (constant (at 46 0) (pos 0)))) ∷ [];
+      37 0) and (constant (at 37 0) boolean (pos 1)) (constant (at 46 0) boolean (pos 0)))) ∷ [];
 }
 
 -- module m; var b: Boolean; begin b := false and true and true end m.
@@ -171,7 +174,8 @@ and-or-2 = record {
   modules = 0 ∷ [];
   variables = and-or-2-b ∷ [];
   bodies = (assign (at 32 0) boolean (whole (own and-or-2-b)) (junction (at
-      37 0) and (junction (at 37 0) and (constant (at 37 0) (pos 0)) (constant (at 47 0) (pos 1))) (constant (at 56 0) (pos 1)))) ∷ [];
+      37 0) and (junction (at 37 0) and (constant (at 37 0) boolean (pos 0)) (constant (at 47 0) boolean (pos 1))) (constant (at 56 0) boolean
+      (pos 1)))) ∷ [];
 }
 
 -- module m; var b: Boolean; begin b := true xor (true or (1 / 0 = 1)) end m.
@@ -183,8 +187,9 @@ and-or-3 = record {
   modules = 0 ∷ [];
   variables = and-or-3-b ∷ [];
   bodies = (assign (at 32 0) boolean (whole (own and-or-3-b)) (binary (at
-      37 0) xor boolean (constant (at 37 0) (pos 1)) (junction (at 47 0) or (constant (at 47 0) (pos 1)) (binary (at 56 0) eq integer (binary
-      (at 56 0) over integer (constant (at 56 0) (pos 1)) (constant (at 60 0) (pos 0))) (constant (at 64 0) (pos 1)))))) ∷ [];
+      37 0) xor boolean (constant (at 37 0) boolean (pos 1)) (junction (at 47 0) or (constant (at 47 0) boolean (pos 1)) (binary (at 56 0) eq
+      integer (binary (at 56 0) over integer (constant (at 56 0) integer (pos 1)) (constant (at 60 0) integer (pos 0))) (constant (at 64 0)
+      integer (pos 1)))))) ∷ [];
 }
 
 -- module m; var x: integer; begin x := -15 div 4 + 1 end m.
@@ -196,8 +201,8 @@ sign = record {
   modules = 0 ∷ [];
   variables = sign-x ∷ [];
   bodies = (assign (at 32 0) integer (whole (own sign-x)) (binary (at 37 0) plus
-      integer (unary (at 37 0) minus-sign (binary (at 38 0) div integer (constant (at 38 0) (pos 15)) (constant (at 45 0) (pos 4)))) (constant
-      (at 49 0) (pos 1)))) ∷ [];
+      integer (unary (at 37 0) minus-sign (binary (at 38 0) div integer (constant (at 38 0) integer (pos 15)) (constant (at 45 0) integer (pos
+      4)))) (constant (at 49 0) integer (pos 1)))) ∷ [];
 }
 
 pub record Depths-worked : Type 0 where

@@ -30,8 +30,8 @@ turns-1 = record {
   modules = 0 ∷ [];
   variables = turns-1-i ∷ [];
   bodies = (while (at 32 0) (at 38 0) (binary (at 38 0) lt integer (value (at
-      38 0) integer (whole (own turns-1-i))) (constant (at 42 0) (pos 1))) (assign (at 47 0) integer (whole (own turns-1-i)) (binary (at 52 0)
-      plus integer (value (at 52 0) integer (whole (own turns-1-i))) (constant (at 56 0) (pos 1))))) ∷ [];
+      38 0) integer (whole (own turns-1-i))) (constant (at 42 0) integer (pos 1))) (assign (at 47 0) integer (whole (own turns-1-i)) (binary
+      (at 52 0) plus integer (value (at 52 0) integer (whole (own turns-1-i))) (constant (at 56 0) integer (pos 1))))) ∷ [];
 }
 
 -- module m; var b: Boolean; begin repeat b := not b until not b end m.
@@ -53,7 +53,7 @@ exits-1 = record {
   modules = 0 ∷ [];
   variables = [];
   bodies = (loop (at 16 0) (exits (loop (at 21 0) (exits skip (at 31 0) (constant (at 31
-      0) (pos 1)) skip (ends skip))) (at 50 0) (constant (at 50 0) (pos 1)) skip (ends skip))) ∷ [];
+      0) boolean (pos 1)) skip (ends skip))) (at 50 0) (constant (at 50 0) boolean (pos 1)) skip (ends skip))) ∷ [];
 }
 
 -- module m; var i: integer; begin loop i := i + 1 when i > 1 do i := 7 exit end end m.
@@ -65,9 +65,9 @@ exits-2 = record {
   modules = 0 ∷ [];
   variables = exits-2-i ∷ [];
   bodies = (loop (at 32 0) (exits (assign (at 37 0) integer (whole (own
-      exits-2-i)) (binary (at 42 0) plus integer (value (at 42 0) integer (whole (own exits-2-i))) (constant (at 46 0) (pos 1)))) (at 53 0)
-      (binary (at 53 0) gt integer (value (at 53 0) integer (whole (own exits-2-i))) (constant (at 57 0) (pos 1))) (assign (at 62 0) integer
-      (whole (own exits-2-i)) (constant (at 67 0) (pos 7))) (ends skip))) ∷ [];
+      exits-2-i)) (binary (at 42 0) plus integer (value (at 42 0) integer (whole (own exits-2-i))) (constant (at 46 0) integer (pos 1)))) (at
+      53 0) (binary (at 53 0) gt integer (value (at 53 0) integer (whole (own exits-2-i))) (constant (at 57 0) integer (pos 1))) (assign (at
+      62 0) integer (whole (own exits-2-i)) (constant (at 67 0) integer (pos 7))) (ends skip))) ∷ [];
 }
 
 -- module m; var x: integer; begin if false then x := 1 elsif true then x := 2 elsif true then x := 3 else x := 4 end end m.
@@ -78,10 +78,11 @@ abbrev pub arms : Program
 arms = record {
   modules = 0 ∷ [];
   variables = arms-x ∷ [];
-  bodies = (if (arm (at 35 0) (constant (at 35 0) (pos 0)) (assign (at 46 0)
-      integer (whole (own arms-x)) (constant (at 51 0) (pos 1))) (arm (at 59 0) (constant (at 59 0) (pos 1)) (assign (at 69 0) integer (whole
-      (own arms-x)) (constant (at 74 0) (pos 2))) (arm (at 82 0) (constant (at 82 0) (pos 1)) (assign (at 92 0) integer (whole (own arms-x))
-      (constant (at 97 0) (pos 3))) (otherwise (assign (at 104 0) integer (whole (own arms-x)) (constant (at 109 0) (pos 4)))))))) ∷ [];
+  bodies = (if (arm (at 35 0) (constant (at 35 0) boolean (pos 0)) (assign (at 46
+      0) integer (whole (own arms-x)) (constant (at 51 0) integer (pos 1))) (arm (at 59 0) (constant (at 59 0) boolean (pos 1)) (assign (at 69
+      0) integer (whole (own arms-x)) (constant (at 74 0) integer (pos 2))) (arm (at 82 0) (constant (at 82 0) boolean (pos 1)) (assign (at 92
+      0) integer (whole (own arms-x)) (constant (at 97 0) integer (pos 3))) (otherwise (assign (at 104 0) integer (whole (own arms-x))
+      (constant (at 109 0) integer (pos 4)))))))) ∷ [];
 }
 
 -- module m; module a; define x; var x: integer; module b; define y; var y: integer; begin y := 1 end b; begin x := y + 1 end a; module c;
@@ -100,10 +101,10 @@ order-of-bodies = record {
   modules = 0 ∷ 0 ∷ 1 ∷ 0 ∷ [];
   variables = order-of-bodies-x ∷ order-of-bodies-y ∷ order-of-bodies-z ∷ [];
   bodies
-      = (assign (at 88 2) integer (whole (own order-of-bodies-y)) (constant (at 93 2) (pos 1))) ∷ (assign (at 108 1) integer (whole (own
-      order-of-bodies-x)) (binary (at 113 1) plus integer (value (at 113 1) integer (whole (own order-of-bodies-y))) (constant (at 117 1) (pos
-      1)))) ∷ (assign (at 165 3) integer (whole (own order-of-bodies-z)) (value (at 170 3) integer (whole (own order-of-bodies-x)))) ∷ skip ∷
-      [];
+      = (assign (at 88 2) integer (whole (own order-of-bodies-y)) (constant (at 93 2) integer (pos 1))) ∷ (assign (at 108 1) integer (whole
+      (own order-of-bodies-x)) (binary (at 113 1) plus integer (value (at 113 1) integer (whole (own order-of-bodies-y))) (constant (at 117 1)
+      integer (pos 1)))) ∷ (assign (at 165 3) integer (whole (own order-of-bodies-z)) (value (at 170 3) integer (whole (own
+      order-of-bodies-x)))) ∷ skip ∷ [];
 }
 
 -- module m; begin if false then end end m.
@@ -111,8 +112,8 @@ abbrev pub finished-at-once-1 : Program
 finished-at-once-1 = record {
   modules = 0 ∷ [];
   variables = [];
-  bodies = (if (arm (at 19 0) (constant (at 19 0) (pos 0)) skip (otherwise
-      skip))) ∷ [];
+  bodies = (if (arm (at 19 0) (constant (at 19 0) boolean (pos 0)) skip
+      (otherwise skip))) ∷ [];
 }
 
 -- module m; var a: integer; begin a := 4 end m.
@@ -124,7 +125,7 @@ hundred-steps-1 = record {
   modules = 0 ∷ [];
   variables = hundred-steps-1-a ∷ [];
   bodies = (assign (at 32 0) integer (whole (own
-      hundred-steps-1-a)) (constant (at 37 0) (pos 4))) ∷ [];
+      hundred-steps-1-a)) (constant (at 37 0) integer (pos 4))) ∷ [];
 }
 
 -- module m; end m.
@@ -141,7 +142,7 @@ hundred-steps-3 = record {
   variables = hundred-steps-3-a ∷ [];
   bodies = (loop (at 32 0) (ends (assign (at 37 0) integer
       (whole (own hundred-steps-3-a)) (binary (at 42 0) plus integer (value (at 42 0) integer (whole (own hundred-steps-3-a))) (constant (at
-      46 0) (pos 1)))))) ∷ [];
+      46 0) integer (pos 1)))))) ∷ [];
 }
 
 pub record Flow-worked : Type 0 where

@@ -3,3 +3,4 @@ pub mod Calls
 pub mod Depths
 pub mod Flow
 pub mod Traps
+pub mod Refused

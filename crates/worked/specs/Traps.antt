@@ -35,9 +35,9 @@ divisions-1 = record {
   modules = 0 ∷ [];
   variables = divisions-1-a ∷ divisions-1-b ∷ [];
   bodies = (seq (assign (at 35 0) integer (whole (own
-      divisions-1-a)) (binary (at 40 0) div integer (unary (at 41 0) minus-sign (constant (at 42 0) (pos 2147483647))) (constant (at 58 0)
-      (pos 2)))) (assign (at 61 0) integer (whole (own divisions-1-b)) (binary (at 66 0) modulo integer (unary (at 67 0) minus-sign (constant
-      (at 68 0) (pos 7))) (constant (at 75 0) (pos 2))))) ∷ [];
+      divisions-1-a)) (binary (at 40 0) div integer (unary (at 41 0) minus-sign (constant (at 42 0) integer (pos 2147483647))) (constant (at
+      58 0) integer (pos 2)))) (assign (at 61 0) integer (whole (own divisions-1-b)) (binary (at 66 0) modulo integer (unary (at 67 0)
+      minus-sign (constant (at 68 0) integer (pos 7))) (constant (at 75 0) integer (pos 2))))) ∷ [];
 }
 
 -- module m; var a: integer; begin a := 7 / (-2) end m.
@@ -49,7 +49,8 @@ divisions-2 = record {
   modules = 0 ∷ [];
   variables = divisions-2-a ∷ [];
   bodies = (assign (at 32 0) integer (whole (own divisions-2-a))
-      (binary (at 37 0) over integer (constant (at 37 0) (pos 7)) (unary (at 42 0) minus-sign (constant (at 43 0) (pos 2))))) ∷ [];
+      (binary (at 37 0) over integer (constant (at 37 0) integer (pos 7)) (unary (at 42 0) minus-sign (constant (at 43 0) integer (pos 2)))))
+      ∷ [];
 }
 
 -- module m; var a: integer; begin a := 7 mod (-2) end m.
@@ -61,7 +62,8 @@ divisions-3 = record {
   modules = 0 ∷ [];
   variables = divisions-3-a ∷ [];
   bodies = (assign (at 32 0) integer (whole (own divisions-3-a))
-      (binary (at 37 0) modulo integer (constant (at 37 0) (pos 7)) (unary (at 44 0) minus-sign (constant (at 45 0) (pos 2))))) ∷ [];
+      (binary (at 37 0) modulo integer (constant (at 37 0) integer (pos 7)) (unary (at 44 0) minus-sign (constant (at 45 0) integer (pos
+      2))))) ∷ [];
 }
 
 -- module m; var x: integer; begin x := -2147483647 - 1 end m.
@@ -73,7 +75,8 @@ beyond-1 = record {
   modules = 0 ∷ [];
   variables = beyond-1-x ∷ [];
   bodies = (assign (at 32 0) integer (whole (own beyond-1-x)) (binary (at
-      37 0) minus integer (unary (at 37 0) minus-sign (constant (at 38 0) (pos 2147483647))) (constant (at 51 0) (pos 1)))) ∷ [];
+      37 0) minus integer (unary (at 37 0) minus-sign (constant (at 38 0) integer (pos 2147483647))) (constant (at 51 0) integer (pos 1)))) ∷
+      [];
 }
 
 -- module m; var x: integer; begin x := 2147483647 + 1 - 1 end m.
@@ -85,8 +88,8 @@ beyond-2 = record {
   modules = 0 ∷ [];
   variables = beyond-2-x ∷ [];
   bodies = (assign (at 32 0) integer (whole (own beyond-2-x)) (binary (at
-      37 0) minus integer (binary (at 37 0) plus integer (constant (at 37 0) (pos 2147483647)) (constant (at 50 0) (pos 1))) (constant (at 54
-      0) (pos 1)))) ∷ [];
+      37 0) minus integer (binary (at 37 0) plus integer (constant (at 37 0) integer (pos 2147483647)) (constant (at 50 0) integer (pos 1)))
+      (constant (at 54 0) integer (pos 1)))) ∷ [];
 }
 
 -- module m; var a: array 1:1 of integer; begin a[2] := 1 / 0 end m.
@@ -98,8 +101,8 @@ index-traps-1 = record {
   modules = 0 ∷ [];
   variables = index-traps-1-a ∷ [];
   bodies = (assign (at 45 0) integer (element (at 45 0) (whole
-      (own index-traps-1-a)) (writing 0 0) (pos 1) (pos 1) (simple integer) (constant (at 47 0) (pos 2))) (binary (at 53 0) over integer
-      (constant (at 53 0) (pos 1)) (constant (at 57 0) (pos 0)))) ∷ [];
+      (own index-traps-1-a)) (writing 0 0) (pos 1) (pos 1) (simple integer) (constant (at 47 0) integer (pos 2))) (binary (at 53 0) over
+      integer (constant (at 53 0) integer (pos 1)) (constant (at 57 0) integer (pos 0)))) ∷ [];
 }
 
 -- module m; var a: array 1:1 of integer; begin a[a[0]] := 1 end m.
@@ -112,7 +115,8 @@ index-traps-2 = record {
   variables = index-traps-2-a ∷ [];
   bodies = (assign (at 45 0) integer (element (at 45 0) (whole
       (own index-traps-2-a)) (writing 0 0) (pos 1) (pos 1) (simple integer) (value (at 47 0) integer (element (at 47 0) (whole (own
-      index-traps-2-a)) (writing 0 0) (pos 1) (pos 1) (simple integer) (constant (at 49 0) (pos 0))))) (constant (at 56 0) (pos 1))) ∷ [];
+      index-traps-2-a)) (writing 0 0) (pos 1) (pos 1) (simple integer) (constant (at 49 0) integer (pos 0))))) (constant (at 56 0) integer
+      (pos 1))) ∷ [];
 }
 
 -- module m; var x: integer; begin x := 2147483647 * 2 / 0 end m.
@@ -124,8 +128,8 @@ first-trap = record {
   modules = 0 ∷ [];
   variables = first-trap-x ∷ [];
   bodies = (assign (at 32 0) integer (whole (own first-trap-x)) (binary
-      (at 37 0) over integer (binary (at 37 0) times integer (constant (at 37 0) (pos 2147483647)) (constant (at 50 0) (pos 2))) (constant (at
-      54 0) (pos 0)))) ∷ [];
+      (at 37 0) over integer (binary (at 37 0) times integer (constant (at 37 0) integer (pos 2147483647)) (constant (at 50 0) integer (pos
+      2))) (constant (at 54 0) integer (pos 0)))) ∷ [];
 }
 
 -- module m; var b: Boolean; begin b := b end m.
@@ -149,8 +153,8 @@ signed-index = record {
   modules = 0 ∷ [];
   variables = signed-index-a ∷ [];
   bodies = (assign (at 57 0) char (element (at 57 0) (whole (own
-      signed-index-a)) (writing 0 0) (negsuc 1) (negsuc 0) (simple char) (unary (at 59 0) minus-sign (constant (at 60 0) (pos 2)))) (constant
-      (at 66 0) (pos 1))) ∷ [];
+      signed-index-a)) (writing 0 0) (negsuc 1) (negsuc 0) (simple char) (unary (at 59 0) minus-sign (constant (at 60 0) integer (pos 2))))
+      (constant (at 66 0) char (pos 1))) ∷ [];
 }
 
 -- module m; procedure p; var a: array 1:1 of char; begin a[1] := 0C end p; begin p end m.
@@ -159,7 +163,8 @@ array-in-procedure-a = variable (codes "a") (array (writing 0 0) (pos 1) (pos 1)
 
 abbrev array-in-procedure-p-called : Procedure
 array-in-procedure-p-called = procedure 0 [] (array-in-procedure-a ∷ []) (assign (at 55 0) char (element (at 55 0) (whole (own
-    array-in-procedure-a)) (writing 0 0) (pos 1) (pos 1) (simple char) (constant (at 57 0) (pos 1))) (constant (at 63 0) (pos 0)))
+    array-in-procedure-a)) (writing 0 0) (pos 1) (pos 1) (simple char) (constant (at 57 0) integer (pos 1))) (constant (at 63 0) char (pos
+    0)))
 
 abbrev pub array-in-procedure : Program
 array-in-procedure = record {
@@ -178,8 +183,8 @@ inner-module-opens = record {
   modules = 0 ∷ 0 ∷ [];
   variables = inner-module-opens-a ∷ [];
   bodies = (assign (at 59 1) char (element (at 59
-      1) (whole (own inner-module-opens-a)) (writing 0 0) (pos 1) (pos 1) (simple char) (constant (at 61 1) (pos 1))) (constant (at 67 1) (pos
-      1))) ∷ skip ∷ [];
+      1) (whole (own inner-module-opens-a)) (writing 0 0) (pos 1) (pos 1) (simple char) (constant (at 61 1) integer (pos 1))) (constant (at 67
+      1) char (pos 1))) ∷ skip ∷ [];
 }
 
 -- module m; type t = record f: char end; module n; define u; use t; type u = t; end n; var a: u; begin a.f := 0C end m.
@@ -191,7 +196,8 @@ record-in-its-module = record {
   modules = 0 ∷ 0 ∷ [];
   variables = record-in-its-module-a ∷ [];
   bodies = skip ∷ (assign (at 101 0) char (part
-      (at 101 0) (whole (own record-in-its-module-a)) (writing 0 0) (field-and (simple char) no-field) 0) (constant (at 108 0) (pos 0))) ∷ [];
+      (at 101 0) (whole (own record-in-its-module-a)) (writing 0 0) (field-and (simple char) no-field) 0) (constant (at 108 0) char (pos 0)))
+      ∷ [];
 }
 
 -- module m; module n; define t, v; type t = (one, two); var v: t; end n; var w: t; b: Boolean; begin w := v; b := w = v end m.
@@ -224,8 +230,8 @@ trapped-counts = record {
   modules = 0 ∷ [];
   variables = trapped-counts-a ∷ [];
   bodies = (seq (assign (at 32 0) integer (whole (own
-      trapped-counts-a)) (constant (at 37 0) (pos 5))) (assign (at 40 0) integer (whole (own trapped-counts-a)) (binary (at 45 0) over integer
-      (constant (at 45 0) (pos 1)) (constant (at 49 0) (pos 0))))) ∷ [];
+      trapped-counts-a)) (constant (at 37 0) integer (pos 5))) (assign (at 40 0) integer (whole (own trapped-counts-a)) (binary (at 45 0) over
+      integer (constant (at 45 0) integer (pos 1)) (constant (at 49 0) integer (pos 0))))) ∷ [];
 }
 
 pub record Traps-worked : Type 0 where

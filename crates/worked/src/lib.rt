@@ -4,6 +4,7 @@ ghost use mathlib.Core.Bool.{true};
 ghost use Rattle.worked.specs.Calls.{Calls-worked};
 ghost use Rattle.worked.specs.Depths.{Depths-worked};
 ghost use Rattle.worked.specs.Flow.{Flow-worked};
+ghost use Rattle.worked.specs.Refused.{Refused-worked};
 ghost use Rattle.worked.specs.Traps.{Traps-worked};
 
 // Examples of calls, actuals and results compute as they are told.
@@ -32,4 +33,11 @@ pub fn traps_compute() -> bool
     ensures { λ r. ⌜ (r ≡ true) × Traps-worked ⌝ }
 {
     true // traps and closed types
+}
+
+// Programs that break a rule are not well-formed.
+pub fn refused_compute() -> bool
+    ensures { λ r. ⌜ (r ≡ true) × Refused-worked ⌝ }
+{
+    true // one rule each
 }
