@@ -5,7 +5,7 @@ use Prim.Native.Nat.{ℕ, zero, suc, _+_, _-_, _*_, _/_, _%_, _<_}
 use native.Mathlib.Nat.{div-add-mod', div-add-mod, mod-lt, mul-suc, mul-comm}
 use native.Mathlib.Omega.{arith}
 use lib.Arith.{digits-div, digits-mod}
-use lib.IntN.{ℤ, pos, negsuc, negℤ, _+ℤ_, _-ℤ_, _*ℤ_}
+use lib.IntN.{ℤ, pos, negsuc, negℤ, _+ℤ_, _-ℤ_}
 use lib.Signed.{quotZ, remZ, ltZ, _≤ℤ_, _<ℤ_}
 use Rattle.std.proofs.shelf.Signed.{ints}
 use Rattle.std.specs.declared.result.Result.the-variants.{Ok}

@@ -1,4 +1,4 @@
--- What quotients and remainders are, said without dividing.
+-- The laws of division: what quotients and remainders are, however they are found.
 use mathlib.Core.Path.{_≡_}
 use Prim.Native.Nat.{_/_, _<_}
 use lib.IntN.{ℤ, pos, natAbs, _+ℤ_, _*ℤ_}

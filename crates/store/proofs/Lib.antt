@@ -1,0 +1,4 @@
+pub mod Windows
+pub mod Boards
+pub mod Loops
+pub mod Memory
