@@ -6,3 +6,4 @@ pub mod Height
 pub mod Order
 pub mod Waiting
 pub mod Opened
+pub mod Present

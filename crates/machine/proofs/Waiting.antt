@@ -25,23 +25,23 @@ use Rattle.machine.specs.Theorems.{Few-wait}
 use Rattle.machine.proofs.Keeps.{calls-keep}
 
 -- lists that get shorter
-length-tail : {A : Type 0} (l : List A) → length (tail l) ≡ one-less (length l)
+pub length-tail : {A : Type 0} (l : List A) → length (tail l) ≡ one-less (length l)
 length-tail [] = refl
 length-tail (x ∷ l) = refl
 
-length-tails : {A : Type 0} (l : List A) → length (tail (tail l)) ≡ one-less (one-less (length l))
+pub length-tails : {A : Type 0} (l : List A) → length (tail (tail l)) ≡ one-less (one-less (length l))
 length-tails l = length-tail (tail l) ∙ ap one-less (length-tail l)
 
 less-before : (n w : ℕ) → less-by n (one-less w) ≡ one-less (less-by n w)
 less-before zero w = refl
 less-before (suc n) w = ap one-less (less-before n w)
 
-length-pops : (n : ℕ) (h : Held) → length (pops n h .waiting) ≡ less-by n (length (h .waiting))
+pub length-pops : (n : ℕ) (h : Held) → length (pops n h .waiting) ≡ less-by n (length (h .waiting))
 length-pops zero h = refl
 length-pops (suc n) h = length-pops n (pop h) ∙ ap (less-by n) (length-tail (h .waiting)) ∙ less-before n (length (h .waiting))
 
 -- n more and then n fewer
-more-less : (n w : ℕ) → less-by n (more-by n w) ≡ w
+pub more-less : (n w : ℕ) → less-by n (more-by n w) ≡ w
 more-less zero w = refl
 more-less (suc n) w = ap one-less (more-less n (suc w))
 

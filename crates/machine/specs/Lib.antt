@@ -4,4 +4,5 @@ pub mod Moves
 pub mod Height
 pub mod Waiting
 pub mod Opened
+pub mod Present
 pub mod Theorems

@@ -78,7 +78,7 @@ abbrev pub one-less : ℕ → ℕ
 one-less zero = zero
 one-less (suc n) = n
 
--- of what waits on top; a well-formed program never asks for what is not there
+-- of what waits on top; the defaults make all of this total, and are never needed (see `Present`)
 abbrev pub the-value : Item → ℤ
 the-value (val v) = v
 the-value (ref c w) = pos 0

@@ -8,6 +8,7 @@ use Rattle.meaning.specs.Actions.{Event}
 use Rattle.meaning.specs.Meaning.{meaning}
 use Rattle.machine.specs.Machine.{Task, Held, run, start, arrives}
 use Rattle.machine.specs.Moves.{move, Sound-move, Kept-by-moves, Holds}
+use Rattle.machine.specs.Present.{Present}
 use Rattle.machine.specs.Opened.{leaves-in, Covered}
 use Rattle.machine.specs.Waiting.{waits, Few}
 use Rattle.machine.specs.Height.{peak, height, Low}
@@ -39,3 +40,9 @@ Calls-covered =
     ((k : List Task) → leaves-in k ≤ length k)
     × Kept-by-moves Covered
     × ((P : Program) (es : List Event) → Holds Covered (arrives (start P) es))
+
+-- What a task takes off the top of what waits is there, at every move and after all calls.
+abbrev pub All-present : Type 0
+All-present =
+    Kept-by-moves Present
+    × ((P : Program) (es : List Event) → Holds Present (arrives (start P) es))

@@ -1,7 +1,7 @@
 // The step machine, as definitions of specs/; each function stands for a theorem on it, which is its contract.
 ghost use mathlib.Core.Path.{_≡_};
 ghost use mathlib.Core.Bool.{true};
-ghost use Rattle.machine.specs.Theorems.{Simulates, Moves-find, Stays-low, Few-wait, Calls-covered};
+ghost use Rattle.machine.specs.Theorems.{Simulates, Moves-find, Stays-low, Few-wait, All-present, Calls-covered};
 ghost use Rattle.meaning.specs.Order.{In-order};
 
 // The machine does exactly the actions of the meaning, on every sequence of calls.
@@ -44,4 +44,11 @@ pub fn calls_covered() -> bool
     ensures { λ r. ⌜ (r ≡ true) × Calls-covered ⌝ }
 {
     true // entered and left together
+}
+
+// No task ever looks in vain for a value or a variable that waits.
+pub fn all_present() -> bool
+    ensures { λ r. ⌜ (r ≡ true) × All-present ⌝ }
+{
+    true // whatever the program
 }
