@@ -2,7 +2,7 @@
 use Prim.{tt, absurd}
 use Prim.Native.Nat.{ℕ, zero, suc, _<_}
 use native.Mathlib.Omega.{arith}
-use mathlib.Core.Path.{sym, subst}
+use mathlib.Core.Path.{_≡_, refl, sym, subst}
 use mathlib.Core.Bool.{Bool, true, false, cond}
 use mathlib.Core.List.{List, [], _∷_}
 use lib.IntN.{ℤ}
@@ -31,6 +31,18 @@ module _ (X : Config → Type 0) (keeps : Kept-by-moves X) where
   next-keeps : (w : ℕ) (k : List Task) (h : Held) → weight k < w → X (then k h) → After X (next-of k h)
   next-keeps zero k h l i = absurd (omega arith)
   next-keeps (suc w) k h l i = next-by w k h l (next-keeps w) (move k h) (moves-find k h) (keeps k h i)
+
+  -- what holds where a move rests holds of the next action
+  rest-by : (Y : Next → Type 0) (w : ℕ) (k : List Task) (h : Held) → weight k < suc w
+      → ((k′ : List Task) (h′ : Held) → weight k′ < w → X (then k′ h′) → Y (next-of k′ h′))
+      → (m : Move) → Sound-move k h m → After-move X m → ((x : Next) → m ≡ rests x → Y x) → Y (next-of k h)
+  rest-by Y w k h l deeper (rests x) s p f = subst Y (sym s) (f x refl)
+  rest-by Y w k h l deeper (moves k′ h′) s p f = subst Y (sym (s .0)) (deeper k′ h′ (let q = s .1 in omega arith) p)
+
+  pub next-has : (Y : Next → Type 0) → ((k : List Task) (h : Held) → X (then k h) → (x : Next) → move k h ≡ rests x → Y x)
+      → (w : ℕ) (k : List Task) (h : Held) → weight k < w → X (then k h) → Y (next-of k h)
+  next-has Y f zero k h l i = absurd (omega arith)
+  next-has Y f (suc w) k h l i = rest-by Y w k h l (next-has Y f w) (move k h) (moves-find k h) (keeps k h i) (f k h i)
 
   acted-keeps : (k : Config → Now) (c₀ : Config) (at : At) (d : ℕ) (a : Action) (c : ℤ → Config) (σ : Cells) (r : Result ℤ Trap)
       → ((v : ℤ) → Holds X (k (c v))) → Holds X (moved-on k c₀ (acted at d a c σ r))

@@ -7,3 +7,4 @@ pub mod Order
 pub mod Waiting
 pub mod Opened
 pub mod Present
+pub mod Depth

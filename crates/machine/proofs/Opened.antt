@@ -1,5 +1,5 @@
 -- Every open call keeps its leave among the tasks.
-use Prim.{tt}
+use Prim.{tt, absurd}
 use Prim.Native.Nat.{ℕ, zero, suc, _+_, _≤_}
 use native.Mathlib.Omega.{arith}
 use mathlib.Core.Path.{_≡_, refl, ap}
@@ -55,11 +55,11 @@ leaves-low (t ∷ k) = let i = leaves-low k in let j = one t in omega arith
     one (to-leave at) = omega arith
     one (to-leave-with at r t) = omega arith
 
-fewer : {A : Type 0} (l : List A) (n : ℕ) → length l ≤ 1 + n → length (tail l) ≤ n
-fewer [] n h = omega arith
+fewer : {A : Type 0} (l : List A) (n : ℕ) → length l ≡ 1 + n → length (tail l) ≡ n
+fewer [] n h = absurd (omega arith)
 fewer (x ∷ l) n h = omega arith
 
-pops-lents : (n : ℕ) (h : Held) → pops n h .lents ≡ h .lents
+pub pops-lents : (n : ℕ) (h : Held) → pops n h .lents ≡ h .lents
 pops-lents zero h = refl
 pops-lents (suc n) h = pops-lents n (pop h)
 
@@ -112,7 +112,7 @@ apply-covered (function u fs r t vs body) at m k h i = λ v. let e = ap length (
 call-covered : (p : Procedure) (at : At) (m : ℕ) (k : List Task) (h : Held) → Covered (then (to-call at p m ∷ k) h) → After Covered (next-call p at m k h)
 call-covered (procedure u fs vs body) at m k h i = λ v. let e = ap length (pops-lents m h) in omega arith
 
-move-covered : Kept-by-moves Covered
+pub move-covered : Kept-by-moves Covered
 move-covered [] h i = tt
 move-covered (to-eval e ∷ k) h i = eval-covered e k h i
 move-covered (to-locate taken x ∷ k) h i = locate-covered taken x k h i

@@ -89,7 +89,7 @@ apply-present (function u fs r t vs body) at m k h i = λ v. (omega arith, (omeg
 call-present : (p : Procedure) (at : At) (m : ℕ) (k : List Task) (h : Held) → Present (then (to-call at p m ∷ k) h) → After Present (next-call p at m k h)
 call-present (procedure u fs vs body) at m k h i = λ v. (omega arith, (omega arith, enough-at k _ _ (length-pops m h) (i .1)))
 
-move-present : Kept-by-moves Present
+pub move-present : Kept-by-moves Present
 move-present [] h i = tt
 move-present (to-eval e ∷ k) h i = eval-present e k h i
 move-present (to-locate taken x ∷ k) h i = locate-present taken x k h i

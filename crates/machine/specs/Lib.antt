@@ -5,4 +5,5 @@ pub mod Height
 pub mod Waiting
 pub mod Opened
 pub mod Present
+pub mod Depth
 pub mod Theorems

@@ -1,5 +1,6 @@
 -- Each open call has its leave among the tasks: so no more calls are open than there are tasks.
-use Prim.Native.Nat.{ℕ, _+_, _≤_}
+use Prim.Native.Nat.{ℕ, _+_}
+use mathlib.Core.Path.{_≡_}
 use mathlib.Core.List.{List, [], _∷_}
 use lib.ListN.{length}
 use Rattle.machine.specs.Machine.{Task, Config}
@@ -37,6 +38,6 @@ abbrev pub leaves-in : List Task → ℕ
 leaves-in [] = 0
 leaves-in (t ∷ k) = leave-in t + leaves-in k
 
--- every open call has its leave there
+-- each open call has its leave there, and there is no other
 abbrev pub Covered : Config → Type 0
-Covered c = length (c .held .lents) ≤ leaves-in (c .tasks)
+Covered c = length (c .held .lents) ≡ leaves-in (c .tasks)

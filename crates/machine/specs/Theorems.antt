@@ -9,6 +9,7 @@ use Rattle.meaning.specs.Meaning.{meaning}
 use Rattle.machine.specs.Machine.{Task, Held, run, start, arrives}
 use Rattle.machine.specs.Moves.{move, Sound-move, Kept-by-moves, Holds}
 use Rattle.machine.specs.Present.{Present}
+use Rattle.machine.specs.Depth.{Deep}
 use Rattle.machine.specs.Opened.{leaves-in, Covered}
 use Rattle.machine.specs.Waiting.{waits, Few}
 use Rattle.machine.specs.Height.{peak, height, Low}
@@ -46,3 +47,7 @@ abbrev pub All-present : Type 0
 All-present =
     Kept-by-moves Present
     × ((P : Program) (es : List Event) → Holds Present (arrives (start P) es))
+
+-- The depth is always what waits, the calls open and the statements open in all their bodies, and the next action tells it.
+abbrev pub Depth-reckoned : Type 0
+Depth-reckoned = (P : Program) (es : List Event) → Holds Deep (arrives (start P) es)

@@ -1,7 +1,7 @@
 // The step machine, as definitions of specs/; each function stands for a theorem on it, which is its contract.
 ghost use mathlib.Core.Path.{_≡_};
 ghost use mathlib.Core.Bool.{true};
-ghost use Rattle.machine.specs.Theorems.{Simulates, Moves-find, Stays-low, Few-wait, All-present, Calls-covered};
+ghost use Rattle.machine.specs.Theorems.{Simulates, Moves-find, Stays-low, Few-wait, All-present, Calls-covered, Depth-reckoned};
 ghost use Rattle.meaning.specs.Order.{In-order};
 
 // The machine does exactly the actions of the meaning, on every sequence of calls.
@@ -51,4 +51,11 @@ pub fn all_present() -> bool
     ensures { λ r. ⌜ (r ≡ true) × All-present ⌝ }
 {
     true // whatever the program
+}
+
+// The depth is what waits, the calls open and the statements open in all their bodies, and the next action tells it.
+pub fn depth_reckoned() -> bool
+    ensures { λ r. ⌜ (r ≡ true) × Depth-reckoned ⌝ }
+{
+    true // after all calls
 }
