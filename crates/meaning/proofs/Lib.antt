@@ -1,0 +1,5 @@
+pub mod Operators
+pub mod Lawful
+pub mod Typing
+pub mod Hiding
+pub mod Examples

@@ -1,0 +1,5 @@
+pub mod Calls
+pub mod Depths
+pub mod Flow
+pub mod Traps
+pub mod Refused
