@@ -1,0 +1,12 @@
+use mathlib.Core.Path.{_≡_}
+use mathlib.Core.List.{[]}
+use Rattle.cursor.specs.Reading.{turned}
+use Rattle.expression_tree.specs.Trees.{selsOf}
+use Rattle.expression_tree.proofs.Sizes as size
+use Rattle.expression_tree.proofs.Selectors.reversed.Given as given
+
+abbrev pub Inv-loop-self : given.InvT-loop-self
+Inv-loop-self l = turned (selsOf (l .self)) (selsOf (l .turned)) ≡ turned (selsOf (l .entry .self)) []
+
+abbrev pub μ-loop-self : given.MeasureT-loop-self
+μ-loop-self l = size.selectors (l .self)

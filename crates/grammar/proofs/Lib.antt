@@ -1,0 +1,15 @@
+pub mod Holding
+pub mod Classes
+pub mod SoundExpressions
+pub mod SoundTypes
+pub mod SoundStatements
+pub mod SoundModules
+pub mod Sound
+pub mod Steps
+pub mod Lists
+pub mod CompleteExpressions
+pub mod CompleteTypes
+pub mod CompleteStatements
+pub mod CompleteModules
+pub mod Complete
+pub mod Examples

@@ -1,0 +1,2 @@
+pub mod StatementsWithin
+pub mod ProgramsWithin
