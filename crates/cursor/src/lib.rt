@@ -1,4 +1,6 @@
 // A way along the symbols of a text: what all readers of the grammar are made of.
+#![tactic(auto)]
+
 ghost use Rattle.std.specs.Prelude.{◌≡◌, [], ◌∷◌, ◌++◌, map, vec_items};
 ghost use Rattle.symbol.specs.Symbols.{sym_of, placed_of};
 ghost use Rattle.cursor.specs.declared.Halt.TheVariants.{NoMemory};

@@ -1,5 +1,7 @@
 // The readers of expressions: one for each rule of the grammar, and one symbol looked ahead. Expression, simple, term and factor call each
 // other in a cycle, in which the nesting allowance falls.
+#![tactic(auto)]
+
 ghost use Rattle.std.specs.Prelude.{◌≡◌};
 ghost use Rattle.symbol.specs.Symbols.{sym_of};
 ghost use Rattle.cursor.specs.Promises.{lex_of, unread, Follows};

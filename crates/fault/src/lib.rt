@@ -1,4 +1,6 @@
 // What can go wrong, and the number of each: faults of a text, traps of a running program, refusals of a store.
+#![tactic(auto)]
+
 ghost use Rattle.std.specs.Prelude.{◌≡◌, Some};
 ghost use Rattle.fault.specs.declared.LoadError.TheVariants.{Text, NoMemory};
 ghost use Rattle.fault.specs.Numbers.{cause_number, cause_layer, layer_name, fault_at, told, fault_line, trap_number, store_error_number};

@@ -1,4 +1,6 @@
 // The grammar of the language as a relation between trees and symbols, and that the readers read exactly it.
+#![tactic(auto)]
+
 ghost use Rattle.std.specs.Prelude.{◌≡◌, true};
 ghost use Rattle.grammar.specs.Theorems.{ExpressionsSound, TypesSound, StatementsSound, ProgramsSound, ExpressionsComplete, TypesComplete, StatementsComplete, ProgramsComplete, Unambiguous, FaultsRefuse};
 ghost use Rattle.grammar.specs.Examples.{SmallestProgram, OtherClosingName};

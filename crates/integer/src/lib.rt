@@ -1,5 +1,7 @@
 // The language's integers, from -2147483647 to 2147483647, and the operators on them. Each answers the value or a trap.
 // They take every i32, also the one number of 32 bits that is no integer of the language.
+#![tactic(auto)]
+
 ghost use Rattle.std.specs.Prelude.{◌≡◌};
 ghost use Rattle.integer.specs.Integers.{bounded, sum, difference, product, negated, truncated, floored, quotient, remainder};
 ghost use Rattle.integer.specs.Laws.{Floors, OnlyPair, Truncates};

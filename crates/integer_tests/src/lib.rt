@@ -1,4 +1,6 @@
 // The operators run on their worked examples.
+#![tactic(auto)]
+
 #[cfg(test)]
 mod tests {
     use fault::Trap;

@@ -1,4 +1,6 @@
 // All symbols of a text.
+#![tactic(auto)]
+
 ghost use Rattle.std.specs.Prelude.{◌≡◌, true};
 ghost use Rattle.lexing.specs.Examples.{Examples};
 ghost use Rattle.lexing.specs.Reading.{Reads};

@@ -1,4 +1,6 @@
 // The step machine, as definitions of specs/; each function stands for a theorem on it, which is its contract.
+#![tactic(auto)]
+
 ghost use Rattle.std.specs.Prelude.{◌≡◌, true};
 ghost use Rattle.machine.specs.Theorems.{Simulates, MovesFind, StaysLow, FewWait, AllPresent, CallsCovered, DepthReckoned};
 ghost use Rattle.meaning.specs.Order.{InOrder};

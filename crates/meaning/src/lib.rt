@@ -1,4 +1,6 @@
 // What a program does, as definitions of specs/; each function stands for a law of runs, which is its contract.
+#![tactic(auto)]
+
 ghost use Rattle.std.specs.Prelude.{◌≡◌, true};
 ghost use Rattle.meaning.specs.Actions.{deepest};
 ghost use Rattle.meaning.specs.Typing.{TypesKept};

@@ -1,4 +1,6 @@
 // The resolved program, as plain data of specs/; each function stands for a theorem on it, which is its contract.
+#![tactic(auto)]
+
 ghost use Rattle.std.specs.Prelude.{◌≡◌, true};
 ghost use Rattle.program.specs.Theorems.{Decided};
 

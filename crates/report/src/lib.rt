@@ -1,4 +1,6 @@
 // What yardcheck tells of a text.
+#![tactic(auto)]
+
 ghost use Rattle.report.specs.Lines.{Tells};
 
 use fault::LoadError;

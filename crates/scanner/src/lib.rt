@@ -1,4 +1,6 @@
 // Reads a text symbol by symbol.
+#![tactic(auto)]
+
 mod front;
 mod gap;
 pub mod scanner;

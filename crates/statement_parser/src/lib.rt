@@ -1,4 +1,6 @@
 // The readers of statements. Statements hold blocks: their readers call each other in a cycle, in which the nesting allowance falls.
+#![tactic(auto)]
+
 ghost use Rattle.std.specs.Prelude.{◌∷◌};
 ghost use Rattle.cursor.specs.Promises.{lex_of, unread, Follows};
 ghost use Rattle.cursor.specs.Reading.{inner, mapped};

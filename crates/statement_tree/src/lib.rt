@@ -1,5 +1,7 @@
 // The tree of statements. A tree is as deep as its text is nested: what the grammar repeats is a list, built back to front, turned once,
 // and dropped by a loop.
+#![tactic(auto)]
+
 pub mod makers;
 
 use cursor::Lexeme;

@@ -1,5 +1,7 @@
 // Stores: lists of cells that are read and written by number. What a store means is said once, by ghost members of the
 // trait; what works on stores is proved once, against that meaning.
+#![tactic(auto)]
+
 ghost use Rattle.std.specs.Prelude.{◌≡◌, ◌<◌, min, true, List, length, replicate, ℤ, pos, slice_set};
 ghost use Rattle.store.specs.Cells.{all_cells, cell_at, placed, put_within, cleared, copied};
 ghost use Rattle.store.specs.Laws.{Bounds, Steady, Remembers};

@@ -1,4 +1,6 @@
 // What works on every store, used on a bay of a bay of a strip.
+#![tactic(auto)]
+
 ghost use Rattle.std.specs.Prelude.{◌≡◌};
 ghost use Rattle.store.specs.Cells.{window, Around, cleared};
 ghost use Rattle.strip.specs.Bytes.{strip_cells, Leftover};

@@ -1,4 +1,6 @@
 // A store over the host's own bytes: four bytes a cell, the highest first, in two's complement.
+#![tactic(auto)]
+
 ghost use Rattle.std.specs.Prelude.{◌≡◌, ◌<◌, slice_set, refl};
 ghost use Rattle.std.proofs.Common.{◌∙◌};
 ghost use Rattle.store.specs.Cells.{placed};

@@ -1,4 +1,6 @@
 // The symbols of a text, and what names, numbers and characters say.
+#![tactic(auto)]
+
 pub mod mark;
 pub mod names;
 pub mod value;

@@ -1,4 +1,6 @@
 // What yardcheck tells of texts on both sides of every limit of the symbols.
+#![tactic(auto)]
+
 #[cfg(test)]
 mod tests {
     use report::report;

@@ -1,5 +1,6 @@
 // What is read of the symbols of a text, as definitions of specs/: plain trees of statements and programs, and one reader for each rule
 // of the grammar. The readers of expressions and types stand in their own crates, with the code that is held to them.
+#![tactic(auto)]
 
 // The word before a section of formals. An unmarked one is const.
 #[derive(Clone, Copy)]

@@ -1,5 +1,7 @@
 // The readers of constants and types. A type can hold types: arrays and records call each other in a cycle, in which the nesting
 // allowance falls.
+#![tactic(auto)]
+
 ghost use Rattle.std.specs.Prelude.{◌∷◌};
 ghost use Rattle.cursor.specs.Promises.{unread, Follows};
 ghost use Rattle.cursor.specs.Reading.{inner, mapped};

@@ -1,4 +1,6 @@
 // The tree of a type, and constants. A record's sections are a list, built back to front, turned once, and dropped by a loop.
+#![tactic(auto)]
+
 pub mod makers;
 
 use cursor::Lexeme;

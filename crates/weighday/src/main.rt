@@ -1,4 +1,6 @@
 // Shows on something real what is stored where: a day's weighings in a bay over a strip of bytes.
+#![tactic(auto)]
+
 use std::io;
 use store::{Bay, Store};
 use strip::Strip;

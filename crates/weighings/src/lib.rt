@@ -1,4 +1,6 @@
 // A day's weighings in a store, and the cells of a strip as a reader sees them.
+#![tactic(auto)]
+
 ghost use Rattle.std.specs.Prelude.{◌≡◌, min, length};
 ghost use Rattle.store.specs.Cells.{cleared, copied};
 ghost use Rattle.store.specs.Bays.{bay_cells, BayBeside};

@@ -1,4 +1,6 @@
 // Worked examples of runs, as definitions of specs/; each function stands for a group of them.
+#![tactic(auto)]
+
 ghost use Rattle.std.specs.Prelude.{◌≡◌, true};
 ghost use Rattle.worked.specs.Calls.{CallsWorked};
 ghost use Rattle.worked.specs.Depths.{DepthsWorked};

@@ -1,4 +1,6 @@
 // Reads a text of the language from standard input, and tells on one line how many symbols it has, or its first fault.
+#![tactic(auto)]
+
 use anyhow::anyhow;
 use report::report;
 use std::io::Read;
