@@ -5,8 +5,8 @@ use Rattle.symbol.proofs.Digits.{onward_whole, no_digits, onward_over, onward_di
 use Rattle.symbol.proofs.value.digits_value.Goals as goal
 use Rattle.symbol.proofs.value.digits_value.Goals.{then-digit-lt48-via-then-digit-lt48, then-digit-lt48-via-else-digit-lt48+then-digit-base}
 
-pub returns-then-is-empty : goal.returns-then-is-empty
-returns-then-is-empty c = no_digits _ _ c.args.digits.now (grind (arith, nat_tests))
+pub returns-then-is_empty : goal.returns-then-is_empty
+returns-then-is_empty c = no_digits _ _ c.args.digits.now (grind (arith, nat_tests))
 
 pub loop-digit-init : goal.loop-digit-init
 loop-digit-init c = (omega arith, onward_whole _ _ c.args.digits.now (λ e. grind (arith, nat_tests)))

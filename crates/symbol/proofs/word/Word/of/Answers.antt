@@ -7,16 +7,16 @@ use Rattle.symbol.proofs.word.Word.of.Goals as goal
 pub loop-word-init : goal.loop-word-init
 loop-word-init c = refl
 
-pub returns-then-same-name : goal.returns-then-same-name
-returns-then-same-name c =
+pub returns-then-same_name : goal.returns-then-same_name
+returns-then-same_name c =
     let n = c.args.name.now in
-    let e = sym (word_found n words c.loop-word.word-index _ c.loop-word-test.true (ap (same_name n) (sym c.spelling.ensures) ∙ sym c.if-same-name.ensures)) ∙ c.loop-word.invariant in
+    let e = sym (word_found n words c.loop-word.word-index _ c.loop-word-test.true (ap (same_name n) (sym c.spelling.ensures) ∙ sym c.if-same_name.ensures)) ∙ c.loop-word.invariant in
     record { value = e; law = reserves n _ e }
 
 pub loop-word-preserved : goal.loop-word-preserved
 loop-word-preserved c =
     let n = c.args.name.now in
-    word_passed n words c.loop-word.word-index _ c.loop-word-test.true (ap (same_name n) (sym c.spelling.ensures) ∙ sym c.if-same-name.ensures) ∙ c.loop-word.invariant
+    word_passed n words c.loop-word.word-index _ c.loop-word-test.true (ap (same_name n) (sym c.spelling.ensures) ∙ sym c.if-same_name.ensures) ∙ c.loop-word.invariant
 
 pub returns : goal.returns
 returns c =
