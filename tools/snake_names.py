@@ -16,6 +16,8 @@ TOKEN = re.compile(r"[^\s(){}\[\],;:.\"`←λ⌜⌝]+")
 # A definition of these crates has the name of a lemma of others.
 THERE = {c: {"formals-of": "procedure_formals"} for c in ("program", "meaning", "machine", "worked")}
 DECLARED = re.compile(r"\s*(?:abbrev |unfoldable )?(?:pub )?(?:record |data )?([^\s:(){},.;]+)\s+(?:\{[^}]*\}\s*|\([^)]*\)\s*)*:")
+# Several constructors of one type, on one line.
+SEVERAL = re.compile(r"  +((?!let |pub |module |abbrev |unfoldable )[^\s:(){},.;=→]+(?: [^\s:(){},.;=→]+)+) :")
 # Where the plain spelling is taken: by a function of the crate, or by another definition.
 OWN = {
     "isMark": "sym_is_mark",
@@ -69,8 +71,8 @@ def own_names():
         text = read(path)
         for line in text.splitlines():
             m = DECLARED.match(line)
-            if m:
-                name = m.group(1)
+            several = SEVERAL.match(line)
+            for name in several.group(1).split() if several else [m.group(1)] if m else []:
                 if answers(path) and re.search(r":\s*(goal|given|need)\.", line):
                     made.add(name)
                 else:

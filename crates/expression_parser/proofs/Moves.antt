@@ -14,7 +14,7 @@ use Rattle.expression_tree.specs.declared.Adding.{Adding}
 use Rattle.expression_tree.specs.declared.Multiplying.{Multiplying}
 use Rattle.expression_tree.specs.Trees.{Expr, Simp, Ter, Fac, Sel, to_field, to_index}
 use Rattle.expression_tree.specs.Trees as tree
-use Rattle.expression_parser.specs.Classes.{relation, sign, adding, multiplying, Start, a_number, aCharacter, aName, anOpening, aNot, other, start, Selecting, byField, byIndex, selecting}
+use Rattle.expression_parser.specs.Classes.{relation, sign, adding, multiplying, Start, a_number, a_character, a_name, an_opening, a_not, other, start, Selecting, by_field, by_index, selecting}
 use Rattle.expression_parser.specs.Readers.{unsigned, multipliers_of, term_of, addends_of, signed_of, simple_of, related_of, expression_of, enclosed_of, selector_of, selectors_of, named_of, factor_at, factor_of, factor}
 use Rattle.expression_parser.proofs.Within.{factor_within, term_within, expression_within, selector_turns}
 
@@ -89,22 +89,22 @@ module _ (d : ℕ) where
   pub factor_number : (ss rest : List PlacedSym) (b : List ℕ) (k : ℕ) → start (head ss).symbol ≡ a_number b → k ≡ (head ss).place → rest ≡ tail ss → factor d ss ≡ got (tree.number (b, k)) rest
   factor_number ss rest b k e f g = factor_at_lem ss _ e ∙ rw (f, g)
 
-  pub factor_character : (ss rest : List PlacedSym) (b : List ℕ) (k : ℕ) → start (head ss).symbol ≡ aCharacter b → k ≡ (head ss).place → rest ≡ tail ss → factor d ss ≡ got (tree.character (b, k)) rest
+  pub factor_character : (ss rest : List PlacedSym) (b : List ℕ) (k : ℕ) → start (head ss).symbol ≡ a_character b → k ≡ (head ss).place → rest ≡ tail ss → factor d ss ≡ got (tree.character (b, k)) rest
   factor_character ss rest b k e f g = factor_at_lem ss _ e ∙ rw (f, g)
 
-  pub factor_name : (ss rest : List PlacedSym) (b : List ℕ) (k : ℕ) → start (head ss).symbol ≡ aName b → k ≡ (head ss).place → rest ≡ tail ss → factor d ss ≡ named_of (inner factor d) (b, k) rest
+  pub factor_name : (ss rest : List PlacedSym) (b : List ℕ) (k : ℕ) → start (head ss).symbol ≡ a_name b → k ≡ (head ss).place → rest ≡ tail ss → factor d ss ≡ named_of (inner factor d) (b, k) rest
   factor_name ss rest b k e f g = factor_at_lem ss _ e ∙ rw (f, g)
 
-  pub factor_paren : (e : ℕ) (ss rest : List PlacedSym) (k : ℕ) → start (head ss).symbol ≡ anOpening → k ≡ (head ss).place → d ≡ suc e → rest ≡ tail ss → factor d ss ≡ after (expression_of (factor e) rest) (λ x left. mapped (λ _. tree.paren k x) (expect_mark RightParen left))
+  pub factor_paren : (e : ℕ) (ss rest : List PlacedSym) (k : ℕ) → start (head ss).symbol ≡ an_opening → k ≡ (head ss).place → d ≡ suc e → rest ≡ tail ss → factor d ss ≡ after (expression_of (factor e) rest) (λ x left. mapped (λ _. tree.paren k x) (expect_mark RightParen left))
   factor_paren e ss rest k s p h r = factor_at_lem ss _ s ∙ nested_some factor d e ss rest _ h r ∙ rw p
 
-  pub factor_not : (e : ℕ) (ss rest : List PlacedSym) (k : ℕ) → start (head ss).symbol ≡ aNot → k ≡ (head ss).place → d ≡ suc e → rest ≡ tail ss → factor d ss ≡ mapped (tree.negated k) (factor e rest)
+  pub factor_not : (e : ℕ) (ss rest : List PlacedSym) (k : ℕ) → start (head ss).symbol ≡ a_not → k ≡ (head ss).place → d ≡ suc e → rest ≡ tail ss → factor d ss ≡ mapped (tree.negated k) (factor e rest)
   factor_not e ss rest k s p h r = factor_at_lem ss _ s ∙ nested_some factor d e ss rest _ h r ∙ rw p
 
-  pub paren_deep : (ss : List PlacedSym) → start (head ss).symbol ≡ anOpening → d ≡ 0 → factor d ss ≡ fault TooDeep ss
+  pub paren_deep : (ss : List PlacedSym) → start (head ss).symbol ≡ an_opening → d ≡ 0 → factor d ss ≡ fault TooDeep ss
   paren_deep ss s h = factor_at_lem ss _ s ∙ nested_none factor d ss _ h
 
-  pub not_deep : (ss : List PlacedSym) → start (head ss).symbol ≡ aNot → d ≡ 0 → factor d ss ≡ fault TooDeep ss
+  pub not_deep : (ss : List PlacedSym) → start (head ss).symbol ≡ a_not → d ≡ 0 → factor d ss ≡ fault TooDeep ss
   not_deep ss s h = factor_at_lem ss _ s ∙ nested_none factor d ss _ h
 
   -- ---- what follows a name
@@ -120,10 +120,10 @@ module _ (d : ℕ) where
   turns : Turns selecting (selector_of (inner factor d))
   turns = selector_turns (inner factor d) (all_inner Reading factor d factor_within)
 
-  by_dot : (s : Sym) → sym_is_mark Dot s ≡ true → selecting s ≡ Some byField
+  by_dot : (s : Sym) → sym_is_mark Dot s ≡ true → selecting s ≡ Some by_field
   by_dot s e = rw e
 
-  by_bracket : (s : Sym) → sym_is_mark Dot s ≡ false → sym_is_mark LeftBracket s ≡ true → selecting s ≡ Some byIndex
+  by_bracket : (s : Sym) → sym_is_mark Dot s ≡ false → sym_is_mark LeftBracket s ≡ true → selecting s ≡ Some by_index
   by_bracket s e f = rw (e, f)
 
   by_none : (s : Sym) → sym_is_mark Dot s ≡ false → sym_is_mark LeftBracket s ≡ false → selecting s ≡ None
@@ -133,35 +133,35 @@ module _ (d : ℕ) where
   unfolding selectors_of
   selector_stop g ss e f = mapped_stop _ _ turns g ss (by_none (head ss).symbol e f)
 
-  field_item : (ss rest left : List PlacedSym) (n : Lex) → rest ≡ tail ss → ident_of rest ≡ got n left → selector_of (inner factor d) byField ss ≡ got (to_field n) left
+  field_item : (ss rest left : List PlacedSym) (n : Lex) → rest ≡ tail ss → ident_of rest ≡ got n left → selector_of (inner factor d) by_field ss ≡ got (to_field n) left
   unfolding after
   field_item ss rest left n h g = ap (λ l. mapped to_field (ident_of l)) (sym h) ∙ ap (mapped to_field) g
 
   pub field_turn : {C : Type 0} (g : List Sel → C) (ss rest : List PlacedSym) → sym_is_mark Dot (head ss).symbol ≡ true → rest ≡ tail ss → mapped g (selectors_of (inner factor d) ss) ≡ after (ident_of rest) (λ n left. mapped (λ xs. g (to_field n ∷ xs)) (selectors_of (inner factor d) left))
   unfolding selectors_of after
-  field_turn g ss rest e h = mapped_turn _ _ turns g byField ss (by_dot (head ss).symbol e) ∙ after_after (ident_of (tail ss)) _ _ ∙ ap (λ l. after (ident_of l) (λ n left. mapped (λ xs. g (to_field n ∷ xs)) (selectors_of (inner factor d) left))) (sym h)
+  field_turn g ss rest e h = mapped_turn _ _ turns g by_field ss (by_dot (head ss).symbol e) ∙ after_after (ident_of (tail ss)) _ _ ∙ ap (λ l. after (ident_of l) (λ n left. mapped (λ xs. g (to_field n ∷ xs)) (selectors_of (inner factor d) left))) (sym h)
 
   pub field_again : (xs ys : List Sel) (ss rest left : List PlacedSym) (n : Lex) {k : Out (List Sel)} → sym_is_mark Dot (head ss).symbol ≡ true → rest ≡ tail ss → ident_of rest ≡ got n left → ys ≡ to_field n ∷ xs → mapped (turned xs) (selectors_of (inner factor d) ss) ≡ k → mapped (turned ys) (selectors_of (inner factor d) left) ≡ k
   unfolding selectors_of
-  field_again xs ys ss rest left n e h g y i = turn_again _ _ turns xs ys (to_field n) byField ss left (by_dot (head ss).symbol e) (field_item ss rest left n h g) y i
+  field_again xs ys ss rest left n e h g y i = turn_again _ _ turns xs ys (to_field n) by_field ss left (by_dot (head ss).symbol e) (field_item ss rest left n h g) y i
 
   pub field_less : (ss rest left : List PlacedSym) (n : Lex) → sym_is_mark Dot (head ss).symbol ≡ true → rest ≡ tail ss → ident_of rest ≡ got n left → length left < length ss
-  field_less ss rest left n e h g = turn_less _ _ turns byField ss left (to_field n) (by_dot (head ss).symbol e) (field_item ss rest left n h g)
+  field_less ss rest left n e h g = turn_less _ _ turns by_field ss left (to_field n) (by_dot (head ss).symbol e) (field_item ss rest left n h g)
 
-  index_item : (ss left : List PlacedSym) (es : List Expr) → enclosed_of (inner factor d) RightBracket ss ≡ got es left → selector_of (inner factor d) byIndex ss ≡ got (to_index es) left
+  index_item : (ss left : List PlacedSym) (es : List Expr) → enclosed_of (inner factor d) RightBracket ss ≡ got es left → selector_of (inner factor d) by_index ss ≡ got (to_index es) left
   unfolding after
   index_item ss left es g = ap (mapped to_index) g
 
   pub index_turn : {C : Type 0} (g : List Sel → C) (ss : List PlacedSym) → sym_is_mark Dot (head ss).symbol ≡ false → sym_is_mark LeftBracket (head ss).symbol ≡ true → mapped g (selectors_of (inner factor d) ss) ≡ after (enclosed_of (inner factor d) RightBracket ss) (λ es left. mapped (λ xs. g (to_index es ∷ xs)) (selectors_of (inner factor d) left))
   unfolding selectors_of after
-  index_turn g ss e f = mapped_turn _ _ turns g byIndex ss (by_bracket (head ss).symbol e f) ∙ after_after (enclosed_of (inner factor d) RightBracket ss) _ _
+  index_turn g ss e f = mapped_turn _ _ turns g by_index ss (by_bracket (head ss).symbol e f) ∙ after_after (enclosed_of (inner factor d) RightBracket ss) _ _
 
   pub index_again : (xs ys : List Sel) (ss left : List PlacedSym) (es : List Expr) {k : Out (List Sel)} → sym_is_mark Dot (head ss).symbol ≡ false → sym_is_mark LeftBracket (head ss).symbol ≡ true → enclosed_of (inner factor d) RightBracket ss ≡ got es left → ys ≡ to_index es ∷ xs → mapped (turned xs) (selectors_of (inner factor d) ss) ≡ k → mapped (turned ys) (selectors_of (inner factor d) left) ≡ k
   unfolding selectors_of
-  index_again xs ys ss left es e f g y i = turn_again _ _ turns xs ys (to_index es) byIndex ss left (by_bracket (head ss).symbol e f) (index_item ss left es g) y i
+  index_again xs ys ss left es e f g y i = turn_again _ _ turns xs ys (to_index es) by_index ss left (by_bracket (head ss).symbol e f) (index_item ss left es g) y i
 
   pub index_less : (ss left : List PlacedSym) (es : List Expr) → sym_is_mark Dot (head ss).symbol ≡ false → sym_is_mark LeftBracket (head ss).symbol ≡ true → enclosed_of (inner factor d) RightBracket ss ≡ got es left → length left < length ss
-  index_less ss left es e f g = turn_less _ _ turns byIndex ss left (to_index es) (by_bracket (head ss).symbol e f) (index_item ss left es g)
+  index_less ss left es e f g = turn_less _ _ turns by_index ss left (to_index es) (by_bracket (head ss).symbol e f) (index_item ss left es g)
 
   -- ---- what is enclosed
 

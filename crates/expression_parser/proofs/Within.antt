@@ -9,7 +9,7 @@ use Rattle.cursor.proofs.Loops.{Within, Reading, All, Turns, within_after, withi
 use Rattle.expression_tree.specs.declared.Relation.{Relation}
 use Rattle.expression_tree.specs.declared.Sign.{Sign}
 use Rattle.expression_tree.specs.Trees.{Fac, Simp, to_field, to_index}
-use Rattle.expression_parser.specs.Classes.{relation, sign, adding, multiplying, Start, a_number, aCharacter, aName, anOpening, aNot, other, start, Selecting, byField, byIndex, selecting}
+use Rattle.expression_parser.specs.Classes.{relation, sign, adding, multiplying, Start, a_number, a_character, a_name, an_opening, a_not, other, start, Selecting, by_field, by_index, selecting}
 use Rattle.expression_parser.specs.Readers.{multipliers_of, term_of, addends_of, signed_of, simple_of, related_of, expression_of, enclosed_of, selector_of, selectors_of, named_of, factor_at, factor_of, factor}
 
 module _ (f : Reads Fac) (w : Reading f) where
@@ -52,8 +52,8 @@ module _ (i : Option (Reads Fac)) (w : All Reading i) where
       (λ es left. within_mapped _ _ (expect_mark close left) (mark_within close left)))
 
   selector_within : (x : Selecting) (ss : List PlacedSym) → Within (length (tail ss)) (selector_of i x ss)
-  selector_within byField ss = within_mapped _ to_field (ident_of (tail ss)) (ident_within (tail ss))
-  selector_within byIndex ss = within_mapped _ to_index (enclosed_of i RightBracket ss) (enclosed_within RightBracket ss)
+  selector_within by_field ss = within_mapped _ to_field (ident_of (tail ss)) (ident_within (tail ss))
+  selector_within by_index ss = within_mapped _ to_index (enclosed_of i RightBracket ss) (enclosed_within RightBracket ss)
 
   pub selector_turns : Turns selecting (selector_of i)
   selector_turns = record { ends = refl; reads = selector_within }
@@ -71,12 +71,12 @@ module _ (i : Option (Reads Fac)) (w : All Reading i) where
 
   at_within : (x : Start) → Reading (factor_at i x)
   at_within (a_number b) ss = length_tail ss
-  at_within (aCharacter b) ss = length_tail ss
-  at_within (aName b) ss = within_tail (named_of i _ (tail ss)) ss (named_within _ (tail ss))
-  at_within anOpening ss =
-      within_tail (factor_at i anOpening ss) ss
+  at_within (a_character b) ss = length_tail ss
+  at_within (a_name b) ss = within_tail (named_of i _ (tail ss)) ss (named_within _ (tail ss))
+  at_within an_opening ss =
+      within_tail (factor_at i an_opening ss) ss
       (nested_within Reading i ss _ w (λ f v rest. within_after _ (expression_of f rest) _ (expression_within f v rest) (λ e left. within_mapped _ _ (expect_mark RightParen left) (mark_within RightParen left))))
-  at_within aNot ss = within_tail (factor_at i aNot ss) ss (nested_within Reading i ss _ w (λ f v rest. within_mapped _ _ (f rest) (v rest)))
+  at_within a_not ss = within_tail (factor_at i a_not ss) ss (nested_within Reading i ss _ w (λ f v rest. within_mapped _ _ (f rest) (v rest)))
   at_within other ss = tt
 
   pub factor_of_within : Reading (factor_of i)

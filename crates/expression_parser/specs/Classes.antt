@@ -38,20 +38,20 @@ multiplying s =
 
 -- what a factor begins with
 pub data Start : Type 0 where
-  a_number aCharacter aName : List ℕ → Start
-  anOpening aNot other : Start
+  a_number a_character a_name : List ℕ → Start
+  an_opening a_not other : Start
 
 abbrev pub start : Sym → Start
-start (name b) = aName b
+start (name b) = a_name b
 start (number b) = a_number b
-start (character b) = aCharacter b
-start (word v) = cond (sym_is_word w.Not (word v)) aNot other
-start (mark k) = cond (sym_is_mark m.LeftParen (mark k)) anOpening other
+start (character b) = a_character b
+start (word v) = cond (sym_is_word w.Not (word v)) a_not other
+start (mark k) = cond (sym_is_mark m.LeftParen (mark k)) an_opening other
 start ending = other
 
 -- what a selector begins with
 pub data Selecting : Type 0 where
-  byField byIndex : Selecting
+  by_field by_index : Selecting
 
 abbrev pub selecting : Sym → Option Selecting
-selecting s = cond (sym_is_mark m.Dot s) (Some byField) (cond (sym_is_mark m.LeftBracket s) (Some byIndex) None)
+selecting s = cond (sym_is_mark m.Dot s) (Some by_field) (cond (sym_is_mark m.LeftBracket s) (Some by_index) None)

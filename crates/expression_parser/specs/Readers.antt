@@ -11,7 +11,7 @@ use Rattle.expression_tree.specs.declared.Sign.{Sign}
 use Rattle.expression_tree.specs.declared.Adding.{Adding}
 use Rattle.expression_tree.specs.declared.Multiplying.{Multiplying}
 use Rattle.expression_tree.specs.Trees.{Expr, Simp, Ter, Fac, Sel, plain, related, sum, adds, product, muls, number, character, variable, call, paren, negated, to_field, to_index, sels, exprs}
-use Rattle.expression_parser.specs.Classes.{relation, sign, adding, multiplying, Start, a_number, aCharacter, aName, anOpening, aNot, other, start, Selecting, byField, byIndex, selecting}
+use Rattle.expression_parser.specs.Classes.{relation, sign, adding, multiplying, Start, a_number, a_character, a_name, an_opening, a_not, other, start, Selecting, by_field, by_index, selecting}
 
 -- ---- the grammar. `f` reads a factor at the same depth
 
@@ -54,8 +54,8 @@ unfoldable pub enclosed_of : Option (Reads Fac) → Mark → Reads (List Expr)
 enclosed_of i close ss = nested i ss (λ f rest. after (list_of Comma (expression_of f) rest) (λ es left. mapped (λ _. es) (expect_mark close left)))
 
 abbrev pub selector_of : Option (Reads Fac) → Selecting → Reads Sel
-selector_of i byField ss = mapped to_field (ident_of (tail ss))
-selector_of i byIndex ss = mapped to_index (enclosed_of i RightBracket ss)
+selector_of i by_field ss = mapped to_field (ident_of (tail ss))
+selector_of i by_index ss = mapped to_index (enclosed_of i RightBracket ss)
 
 -- {"." ident | "[" expression {"," expression} "]"}
 unfoldable pub selectors_of : Option (Reads Fac) → Reads (List Sel)
@@ -69,10 +69,10 @@ named_of i n ss =
 
 abbrev pub factor_at : Option (Reads Fac) → Start → Reads Fac
 factor_at i (a_number b) ss = got (number (b, (head ss).place)) (tail ss)
-factor_at i (aCharacter b) ss = got (character (b, (head ss).place)) (tail ss)
-factor_at i (aName b) ss = named_of i (b, (head ss).place) (tail ss)
-factor_at i anOpening ss = nested i ss (λ f rest. after (expression_of f rest) (λ e left. mapped (λ _. paren (head ss).place e) (expect_mark RightParen left)))
-factor_at i aNot ss = nested i ss (λ f rest. mapped (negated (head ss).place) (f rest))
+factor_at i (a_character b) ss = got (character (b, (head ss).place)) (tail ss)
+factor_at i (a_name b) ss = named_of i (b, (head ss).place) (tail ss)
+factor_at i an_opening ss = nested i ss (λ f rest. after (expression_of f rest) (λ e left. mapped (λ _. paren (head ss).place e) (expect_mark RightParen left)))
+factor_at i a_not ss = nested i ss (λ f rest. mapped (negated (head ss).place) (f rest))
 factor_at i other ss = fault Syntax ss
 
 -- factor = number | character | variable | ident actuals | "(" expression ")" | "not" factor

@@ -78,7 +78,7 @@ pub fn read_sign(cursor: &mut Cursor<'_, '_>) -> Option<Sign>
     sign
 }
 
-#[cycle(enclosed_expression_factor_named_selectors_simple_term)]
+#[cycle(expressions)]
 pub fn expression<'s, 't>(
     cursor: &mut Cursor<'s, 't>,
     allowance: u8,
@@ -96,7 +96,7 @@ pub fn expression<'s, 't>(
     }
 }
 
-#[cycle(enclosed_expression_factor_named_selectors_simple_term)]
+#[cycle(expressions)]
 fn simple<'s, 't>(cursor: &mut Cursor<'s, 't>, allowance: u8) -> Result<Simple<'t>, Halt>
     ensures { Follows simp_of result (unread cursor.new) (simple_of (factor_at allowance) (unread cursor.old)) }
 {
@@ -113,7 +113,7 @@ fn simple<'s, 't>(cursor: &mut Cursor<'s, 't>, allowance: u8) -> Result<Simple<'
     Ok(Simple::of_sum(cursor.heap, place, sign, first, addends)?)
 }
 
-#[cycle(enclosed_expression_factor_named_selectors_simple_term)]
+#[cycle(expressions)]
 fn term<'s, 't>(cursor: &mut Cursor<'s, 't>, allowance: u8) -> Result<Term<'t>, Halt>
     ensures { Follows ter_of result (unread cursor.new) (term_of (factor_at allowance) (unread cursor.old)) }
 {
@@ -128,7 +128,7 @@ fn term<'s, 't>(cursor: &mut Cursor<'s, 't>, allowance: u8) -> Result<Term<'t>, 
     Ok(Term::of_product(cursor.heap, first, multipliers)?)
 }
 
-#[cycle(enclosed_expression_factor_named_selectors_simple_term)]
+#[cycle(expressions)]
 fn factor<'s, 't>(cursor: &mut Cursor<'s, 't>, allowance: u8) -> Result<Factor<'t>, Halt>
     ensures { Follows fac_of result (unread cursor.new) (factor_at allowance (unread cursor.old)) }
 {
@@ -175,7 +175,7 @@ fn factor<'s, 't>(cursor: &mut Cursor<'s, 't>, allowance: u8) -> Result<Factor<'
 }
 
 // What begins with a name: a call, or a variable.
-#[cycle(enclosed_expression_factor_named_selectors_simple_term)]
+#[cycle(expressions)]
 fn named<'s, 't>(
     cursor: &mut Cursor<'s, 't>,
     allowance: u8,
@@ -191,7 +191,7 @@ fn named<'s, 't>(
     Ok(Factor::of_variable(cursor.heap, name, selectors)?)
 }
 
-#[cycle(enclosed_expression_factor_named_selectors_simple_term)]
+#[cycle(expressions)]
 pub fn selectors<'s, 't>(cursor: &mut Cursor<'s, 't>, allowance: u8) -> Result<Selectors<'t>, Halt>
     ensures { Follows sels_of result (unread cursor.new) (selectors_of (inner factor_at allowance) (unread cursor.old)) }
 {
@@ -211,7 +211,7 @@ pub fn selectors<'s, 't>(cursor: &mut Cursor<'s, 't>, allowance: u8) -> Result<S
 }
 
 // The symbol that opens, expressions parted by commas, and the mark that closes.
-#[cycle(enclosed_expression_factor_named_selectors_simple_term)]
+#[cycle(expressions)]
 pub fn enclosed<'s, 't>(
     cursor: &mut Cursor<'s, 't>,
     allowance: u8,

@@ -97,7 +97,7 @@ pub enum Expressions<'t> {
 // ---- how trees are let go: the lists by a loop, since they can be as long as a text
 
 impl Drop for Expression<'_> {
-    #[cycle(drop_drop_drop_drop_drop_drop_drop_drop)]
+    #[cycle(drops)]
     fn drop(self) {
         match self {
             Expression::Plain(simple) => {
@@ -112,7 +112,7 @@ impl Drop for Expression<'_> {
 }
 
 impl Drop for Simple<'_> {
-    #[cycle(drop_drop_drop_drop_drop_drop_drop_drop)]
+    #[cycle(drops)]
     fn drop(self) {
         match self {
             Simple::Sum(_, _, term, addends) => {
@@ -124,7 +124,7 @@ impl Drop for Simple<'_> {
 }
 
 impl Drop for Addends<'_> {
-    #[cycle(drop_drop_drop_drop_drop_drop_drop_drop)]
+    #[cycle(drops)]
     fn drop(mut self) {
         loop {
             match self {
@@ -139,7 +139,7 @@ impl Drop for Addends<'_> {
 }
 
 impl Drop for Term<'_> {
-    #[cycle(drop_drop_drop_drop_drop_drop_drop_drop)]
+    #[cycle(drops)]
     fn drop(self) {
         match self {
             Term::Product(factor, multipliers) => {
@@ -151,7 +151,7 @@ impl Drop for Term<'_> {
 }
 
 impl Drop for Multipliers<'_> {
-    #[cycle(drop_drop_drop_drop_drop_drop_drop_drop)]
+    #[cycle(drops)]
     fn drop(mut self) {
         loop {
             match self {
@@ -166,7 +166,7 @@ impl Drop for Multipliers<'_> {
 }
 
 impl Drop for Factor<'_> {
-    #[cycle(drop_drop_drop_drop_drop_drop_drop_drop)]
+    #[cycle(drops)]
     fn drop(self) {
         match self {
             Factor::Number(_) => {}
@@ -188,7 +188,7 @@ impl Drop for Factor<'_> {
 }
 
 impl Drop for Selectors<'_> {
-    #[cycle(drop_drop_drop_drop_drop_drop_drop_drop)]
+    #[cycle(drops)]
     fn drop(mut self) {
         loop {
             match self {
@@ -206,7 +206,7 @@ impl Drop for Selectors<'_> {
 }
 
 impl Drop for Expressions<'_> {
-    #[cycle(drop_drop_drop_drop_drop_drop_drop_drop)]
+    #[cycle(drops)]
     fn drop(mut self) {
         loop {
             match self {

@@ -11,7 +11,7 @@ use Rattle.expression_tree.specs.declared.Relation.{Relation}
 use Rattle.expression_tree.specs.declared.Sign.{Sign}
 use Rattle.expression_tree.specs.declared.Adding.{Adding}
 use Rattle.expression_tree.specs.declared.Multiplying.{Multiplying}
-use Rattle.expression_parser.specs.Classes.{relation, sign, adding, multiplying, start, a_number, aCharacter, aName, anOpening, aNot, selecting, byField, byIndex}
+use Rattle.expression_parser.specs.Classes.{relation, sign, adding, multiplying, start, a_number, a_character, a_name, an_opening, a_not, selecting, by_field, by_index}
 use Rattle.grammar.specs.Phrases.{◌at◌, symbol_of}
 use Rattle.grammar.specs.Expressions.{relation_sym, sign_sym, adding_sym, multiplying_sym}
 use Rattle.grammar.proofs.Holding.{starts, mark_is, word_is}
@@ -70,32 +70,32 @@ starts_adding o ss e = ((head ss).place, starts ss (adding_sym o) (adding_is _ o
 pub starts_multiplying : (o : Multiplying) (ss : List PlacedSym) → multiplying (head ss).symbol ≡ Some o → symbol_of (multiplying_sym o) ss (tail ss)
 starts_multiplying o ss e = ((head ss).place, starts ss (multiplying_sym o) (multiplying_is _ o e) (λ z. grind arith))
 
-pub starts_field : (ss : List PlacedSym) → selecting (head ss).symbol ≡ Some byField → sym_is_mark m.Dot (head ss).symbol ≡ true
+pub starts_field : (ss : List PlacedSym) → selecting (head ss).symbol ≡ Some by_field → sym_is_mark m.Dot (head ss).symbol ≡ true
 starts_field ss e = grind (arith, nat_tests)
 
-pub starts_index : (ss : List PlacedSym) → selecting (head ss).symbol ≡ Some byIndex → sym_is_mark m.LeftBracket (head ss).symbol ≡ true
+pub starts_index : (ss : List PlacedSym) → selecting (head ss).symbol ≡ Some by_index → sym_is_mark m.LeftBracket (head ss).symbol ≡ true
 starts_index ss e = grind (arith, nat_tests)
 
 number_is : (s : Sym) (b : List ℕ) → start s ≡ a_number b → s ≡ symbol.number b
 number_is s b e = grind (arith, nat_tests)
 
-character_is : (s : Sym) (b : List ℕ) → start s ≡ aCharacter b → s ≡ symbol.character b
+character_is : (s : Sym) (b : List ℕ) → start s ≡ a_character b → s ≡ symbol.character b
 character_is s b e = grind (arith, nat_tests)
 
-name_is : (s : Sym) (b : List ℕ) → start s ≡ aName b → s ≡ symbol.name b
+name_is : (s : Sym) (b : List ℕ) → start s ≡ a_name b → s ≡ symbol.name b
 name_is s b e = grind (arith, nat_tests)
 
 pub starts_number : (b : List ℕ) (ss : List PlacedSym) → start (head ss).symbol ≡ a_number b → ss ≡ symbol.number b at (head ss).place ∷ tail ss
 starts_number b ss e = starts ss (symbol.number b) (number_is _ b e) (λ z. grind arith)
 
-pub starts_character : (b : List ℕ) (ss : List PlacedSym) → start (head ss).symbol ≡ aCharacter b → ss ≡ symbol.character b at (head ss).place ∷ tail ss
+pub starts_character : (b : List ℕ) (ss : List PlacedSym) → start (head ss).symbol ≡ a_character b → ss ≡ symbol.character b at (head ss).place ∷ tail ss
 starts_character b ss e = starts ss (symbol.character b) (character_is _ b e) (λ z. grind arith)
 
-pub starts_name : (b : List ℕ) (ss : List PlacedSym) → start (head ss).symbol ≡ aName b → ss ≡ symbol.name b at (head ss).place ∷ tail ss
+pub starts_name : (b : List ℕ) (ss : List PlacedSym) → start (head ss).symbol ≡ a_name b → ss ≡ symbol.name b at (head ss).place ∷ tail ss
 starts_name b ss e = starts ss (symbol.name b) (name_is _ b e) (λ z. grind arith)
 
-pub opening_is : (s : Sym) → start s ≡ anOpening → sym_is_mark m.LeftParen s ≡ true
+pub opening_is : (s : Sym) → start s ≡ an_opening → sym_is_mark m.LeftParen s ≡ true
 opening_is s e = grind (arith, nat_tests)
 
-pub not_is : (s : Sym) → start s ≡ aNot → sym_is_word w.Not s ≡ true
+pub not_is : (s : Sym) → start s ≡ a_not → sym_is_word w.Not s ≡ true
 not_is s e = grind (arith, nat_tests)

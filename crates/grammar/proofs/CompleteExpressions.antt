@@ -13,7 +13,7 @@ use Rattle.expression_tree.specs.declared.Adding.{Adding}
 use Rattle.expression_tree.specs.declared.Multiplying.{Multiplying}
 use Rattle.expression_tree.specs.Trees.{Expr, Simp, Ter, Fac, Adds, Muls, Sels, Exprs, to_field, to_index, adds, sels, exprs}
 use Rattle.expression_tree.specs.Trees as tree
-use Rattle.expression_parser.specs.Classes.{relation, sign, adding, multiplying, selecting, byField, byIndex}
+use Rattle.expression_parser.specs.Classes.{relation, sign, adding, multiplying, selecting, by_field, by_index}
 use Rattle.expression_parser.specs.Readers.{multipliers_of, term_of, addends_of, unsigned, signed_of, simple_of, related_of, expression_of, enclosed_of, selectors_of, named_of, factor_of, factor}
 use Rattle.expression_parser.proofs.Within.{factor_within, expression_within, multiplier_turns, addend_turns, selector_turns}
 use Rattle.grammar.specs.Phrases.{◌at◌, ◌then◌, symbol_of, mark, deeper}
@@ -163,11 +163,11 @@ mutual
   pub sels_complete : (s : Sels) (d : ℕ) (ss rest : List PlacedSym) → SelsR s d ss rest → selecting (head rest).symbol ≡ None → selectors_of (inner factor d) ss ≡ got (sel_list s) rest
   sels_complete tree.no_selector d ss rest h k = stops selecting _ (selector_turns (inner factor d) (inner_within d)) ss rest h k
   sels_complete (tree.field n s) d ss rest h k =
-      turns selecting _ (selector_turns (inner factor d) (inner_within d)) byField (to_field n) (sel_list s) ss h.2.0 rest (first (λ x. selecting x ≡ Some byField) h.1 refl)
+      turns selecting _ (selector_turns (inner factor d) (inner_within d)) by_field (to_field n) (sel_list s) ss h.2.0 rest (first (λ x. selecting x ≡ Some by_field) h.1 refl)
       (on _ (ap ident_of (left_of h.1) ∙ ident_read n h.0 h.2.0 h.2.1) refl)
       (sels_complete s d h.2.0 rest h.2.2 k)
   sels_complete (tree.index x s) d ss rest h k =
-      turns selecting _ (selector_turns (inner factor d) (inner_within d)) byIndex (to_index (expr_list x)) (sel_list s) ss h.2.0 rest (first (λ y. selecting y ≡ Some byIndex) h.1 refl)
+      turns selecting _ (selector_turns (inner factor d) (inner_within d)) by_index (to_index (expr_list x)) (sel_list s) ss h.2.0 rest (first (λ y. selecting y ≡ Some by_index) h.1 refl)
       (on _ (enclosed_complete x d m.RightBracket ss h.0 h.2.0 h.1 h.2.1 (((((refl, refl), refl), refl), refl), refl)) refl)
       (sels_complete s d h.2.0 rest h.2.2 k)
 

@@ -13,7 +13,7 @@ use Rattle.expression_parser.specs.Classes.{selecting}
 use Rattle.expression_parser.specs.Readers.{expression_of, factor}
 use Rattle.syntax.specs.StatementTrees.{Stmt, Stmts, Elsfs, Exts, stmts, elsifs, exits}
 use Rattle.syntax.specs.StatementTrees as tree
-use Rattle.syntax.specs.Statements.{anActual, aTarget, following, named_at, named_of, block_of, optional_of, begins, elsif_of, elsifs_of, exit_of, exits_of, if_of, while_of, repeat_of, loop_of, Kind, ofNothing, kind, statement_at, statement_of, statement, level}
+use Rattle.syntax.specs.Statements.{an_actual, a_target, following, named_at, named_of, block_of, optional_of, begins, elsif_of, elsifs_of, exit_of, exits_of, if_of, while_of, repeat_of, loop_of, Kind, of_nothing, kind, statement_at, statement_of, statement, level}
 use Rattle.syntax.proofs.StatementsWithin.{elsif_turns, exit_turns, statement_within}
 use Rattle.grammar.specs.Phrases.{◌at◌, mark, word}
 use Rattle.grammar.specs.Statements.{StmtR, BlockR, MoreR, OptionalR, ElsifsR, ExitsR}
@@ -85,17 +85,17 @@ mutual
   unfolding head tail statement statement_of named_of if_of while_of repeat_of loop_of list_of optional_of elsif_of exit_of
 
   pub stmt_complete : (t : Stmt) (d : ℕ) (ss rest : List PlacedSym) → StmtR t d ss rest → StopA (head rest).symbol → statement d ss ≡ got t rest
-  stmt_complete tree.empty d ss rest h k = statement_at_lem d ss ofNothing (same_first (λ s. kind s ≡ ofNothing) h k.2) ∙ ap (got tree.empty) h
+  stmt_complete tree.empty d ss rest h k = statement_at_lem d ss of_nothing (same_first (λ s. kind s ≡ of_nothing) h k.2) ∙ ap (got tree.empty) h
   stmt_complete (tree.assignment n s x) d ss rest h k =
       ap (statement d) h.1 ∙ statement_name d n h.0
-      ∙ ap (λ y. named_at d n y h.0) (sels_first (λ y. following y ≡ aTarget) refl refl s d h.0 h.2.0 h.2.1 (first (λ y. following y ≡ aTarget) h.2.2.1 refl))
+      ∙ ap (λ y. named_at d n y h.0) (sels_first (λ y. following y ≡ a_target) refl refl s d h.0 h.2.0 h.2.1 (first (λ y. following y ≡ a_target) h.2.2.1 refl))
       ∙ on _ (sels_complete s d h.0 h.2.0 h.2.1 (first (λ y. selecting y ≡ None) h.2.2.1 refl))
       (on _ (mark_read m.Becomes h.2.0 h.2.2.0 h.2.2.1)
       (on _ (expr_complete x d h.2.2.0 rest h.2.2.2 k.0) (ap (λ y. got (tree.assignment n y x) rest) (sels_back s))))
   stmt_complete (tree.procedure_call n no_expression) d ss rest h k = ap (statement d) h ∙ statement_name d n rest ∙ ap (λ y. named_at d n y rest) k.1
   stmt_complete (tree.procedure_call n (item x a)) d ss rest h k =
       ap (statement d) h.1 ∙ statement_name d n h.0
-      ∙ ap (λ y. named_at d n y h.0) (first (λ y. following y ≡ anActual) h.2.1 refl)
+      ∙ ap (λ y. named_at d n y h.0) (first (λ y. following y ≡ an_actual) h.2.1 refl)
       ∙ on _ (enclosed_complete (item x a) d m.RightParen h.0 h.2.0 rest h.2.1 h.2.2 (((((refl, refl), refl), refl), refl), refl)) (ap (λ y. got (tree.procedure_call n y) rest) (exprs_back (item x a)))
   stmt_complete (tree.if_statement p x b i o) zero ss rest h k = absurd h.2
   stmt_complete (tree.if_statement p x b i o) (suc d) ss rest h k =

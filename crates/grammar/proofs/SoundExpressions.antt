@@ -9,7 +9,7 @@ use Rattle.cursor.specs.Reading.{Reads, head, tail, Lex, inner, behind, paired, 
 use Rattle.expression_tree.specs.declared.Relation.{Relation}
 use Rattle.expression_tree.specs.declared.Sign.{Sign}
 use Rattle.expression_tree.specs.Trees.{Expr, Simp, Fac, Sel, to_field, to_index, adds, muls, sels, exprs, select}
-use Rattle.expression_parser.specs.Classes.{relation, sign, adding, multiplying, Start, start, a_number, aCharacter, aName, anOpening, aNot, other, Selecting, selecting, byField, byIndex}
+use Rattle.expression_parser.specs.Classes.{relation, sign, adding, multiplying, Start, start, a_number, a_character, a_name, an_opening, a_not, other, Selecting, selecting, by_field, by_index}
 use Rattle.expression_parser.specs.Readers.{multipliers_of, term_of, addends_of, unsigned, signed_of, simple_of, related_of, expression_of, enclosed_of, selector_of, selectors_of, named_of, factor_at, factor_of, factor}
 use Rattle.grammar.specs.Phrases.{Phrase, ◌then◌, symbol_of, mark, ident, deeper, repeated, separated}
 use Rattle.grammar.specs.Expressions.{adding_sym, multiplying_sym, SignR, ExprR, SimpR, AddsR, TerR, MulsR, FacR, SelsR, ExprsR, MoreR}
@@ -91,8 +91,8 @@ module _ (d : ℕ) (w : KeepsIn d) where
 
   selector_sound : (x : Selecting) (ss : List PlacedSym) → selecting (head ss).symbol ≡ Some x → Holds (λ s rest. SelR s ss rest) (selector_of (inner factor d) x ss)
   unfolding SelR
-  selector_sound byField ss e = bind (ident_holds (tail ss)) (λ n rest h. done (tail ss, ((head ss).place, starts_mark m.Dot ss (starts_field ss e)), h))
-  selector_sound byIndex ss e = bind (enclosed_sound d w m.RightBracket ss) (λ es rest h. done (tail ss, ((head ss).place, starts_mark m.LeftBracket ss (starts_index ss e)), h))
+  selector_sound by_field ss e = bind (ident_holds (tail ss)) (λ n rest h. done (tail ss, ((head ss).place, starts_mark m.Dot ss (starts_field ss e)), h))
+  selector_sound by_index ss e = bind (enclosed_sound d w m.RightBracket ss) (λ es rest h. done (tail ss, ((head ss).place, starts_mark m.LeftBracket ss (starts_index ss e)), h))
 
   selects : (x : Sel) (xs : List Sel) (ss mid rest : List PlacedSym) → SelR x ss mid → SelsR (sels xs) d mid rest → SelsR (select x (sels xs)) d ss rest
   unfolding SelR
@@ -110,14 +110,14 @@ module _ (d : ℕ) (w : KeepsIn d) where
       (λ e. bind (enclosed_sound d w m.RightParen ss) (λ es rest h. done (ss, i, (tail ss, ((head ss).place, starts_mark m.LeftParen ss e), h))))
       (λ e. bind (selectors_sound ss) (λ xs rest h. done (ss, i, h)))
 
-paren_sound : (d : ℕ) → KeepsIn d → (ss : List PlacedSym) → sym_is_mark m.LeftParen (head ss).symbol ≡ true → Holds (λ t rest. FacR t d ss rest) (factor_at (inner factor d) anOpening ss)
+paren_sound : (d : ℕ) → KeepsIn d → (ss : List PlacedSym) → sym_is_mark m.LeftParen (head ss).symbol ≡ true → Holds (λ t rest. FacR t d ss rest) (factor_at (inner factor d) an_opening ss)
 unfolding inner
 paren_sound zero w ss e = faulted
 paren_sound (suc d) w ss e =
     bind (expression_sound d (factor d) w (tail ss))
     (λ x left h. bind (mark_holds m.RightParen left) (λ _ rest k. done (tail ss, starts_mark m.LeftParen ss e, (left, h, k))))
 
-not_sound : (d : ℕ) → KeepsIn d → (ss : List PlacedSym) → sym_is_word w.Not (head ss).symbol ≡ true → Holds (λ t rest. FacR t d ss rest) (factor_at (inner factor d) aNot ss)
+not_sound : (d : ℕ) → KeepsIn d → (ss : List PlacedSym) → sym_is_word w.Not (head ss).symbol ≡ true → Holds (λ t rest. FacR t d ss rest) (factor_at (inner factor d) a_not ss)
 unfolding inner
 not_sound zero w ss e = faulted
 not_sound (suc d) k ss e = bind (k (tail ss)) (λ x rest h. done (tail ss, starts_word w.Not ss e, h))
@@ -128,10 +128,10 @@ factor_step d w ss = go (start (head ss).symbol) refl
   where
     go : (x : Start) → start (head ss).symbol ≡ x → Holds (λ t rest. FacR t d ss rest) (factor_at (inner factor d) x ss)
     go (a_number b) e = done (starts_number b ss e)
-    go (aCharacter b) e = done (starts_character b ss e)
-    go (aName b) e = named_sound d w (b, (head ss).place) (tail ss) ss (starts_name b ss e)
-    go anOpening e = paren_sound d w ss (opening_is (head ss).symbol e)
-    go aNot e = not_sound d w ss (not_is (head ss).symbol e)
+    go (a_character b) e = done (starts_character b ss e)
+    go (a_name b) e = named_sound d w (b, (head ss).place) (tail ss) ss (starts_name b ss e)
+    go an_opening e = paren_sound d w ss (opening_is (head ss).symbol e)
+    go a_not e = not_sound d w ss (not_is (head ss).symbol e)
     go other e = faulted
 
 pub factor_sound : (d : ℕ) → Keeps d

@@ -11,7 +11,7 @@ use Rattle.cursor.specs.Reading.{head, tail, Lex, inner}
 use Rattle.expression_tree.specs.Trees.{Expr, exprs}
 use Rattle.syntax.specs.StatementTrees.{Stmt, Stmts, stmts, elsifs, exits}
 use Rattle.syntax.specs.StatementTrees as tree
-use Rattle.syntax.specs.Statements.{Following, anActual, aTarget, nothing, following, named_at, named_of, block_of, optional_of, begins, elsif_of, elsifs_of, exit_of, exits_of, if_of, while_of, repeat_of, loop_of, Kind, of_name, ofIf, ofWhile, ofRepeat, ofLoop, ofNothing, kind, statement_at, statement_of, statement, level}
+use Rattle.syntax.specs.Statements.{Following, an_actual, a_target, nothing, following, named_at, named_of, block_of, optional_of, begins, elsif_of, elsifs_of, exit_of, exits_of, if_of, while_of, repeat_of, loop_of, Kind, of_name, of_if, of_while, of_repeat, of_loop, of_nothing, kind, statement_at, statement_of, statement, level}
 use Rattle.grammar.specs.Phrases.{◌then◌, mark, word, ident, deeper, repeated, separated}
 use Rattle.grammar.specs.Expressions.{ExprR, ExprsR}
 use Rattle.grammar.specs.Statements.{StmtR, BlockR, MoreR, OptionalR, ElsifsR, ExitsR}
@@ -20,7 +20,7 @@ use Rattle.grammar.proofs.SoundExpressions.{keeps_in, enclosed_sound, selectors_
 
 -- ---- what follows a name
 
-actual_is : (s : Sym) → following s ≡ anActual → sym_is_mark m.LeftParen s ≡ true
+actual_is : (s : Sym) → following s ≡ an_actual → sym_is_mark m.LeftParen s ≡ true
 actual_is s e = grind (arith, nat_tests)
 
 call_of : (d : ℕ) (n : Lex) (es : List Expr) (all ss mid rest : List PlacedSym) → ident n all ss → mark m.LeftParen ss mid → deeper d (λ e. ExprsR (exprs es) e then mark m.RightParen) mid rest → StmtR (tree.procedure_call n (exprs es)) d all rest
@@ -33,8 +33,8 @@ unfolding named_of
 named_sound d n ss all i = go (following (head ss).symbol) refl
   where
     go : (x : Following) → following (head ss).symbol ≡ x → Holds (λ t rest. StmtR t d all rest) (named_at d n x ss)
-    go anActual e = bind (enclosed_sound d (keeps_in d) m.RightParen ss) (λ es rest h. done (call_of d n es all ss (tail ss) rest i ((head ss).place, starts_mark m.LeftParen ss (actual_is (head ss).symbol e)) h))
-    go aTarget e =
+    go an_actual e = bind (enclosed_sound d (keeps_in d) m.RightParen ss) (λ es rest h. done (call_of d n es all ss (tail ss) rest i ((head ss).place, starts_mark m.LeftParen ss (actual_is (head ss).symbol e)) h))
+    go a_target e =
         bind (selectors_sound d (keeps_in d) ss)
         (λ xs r1 h1. bind (mark_holds m.Becomes r1)
         (λ _ r2 h2. bind (expr_sound d r2)
@@ -144,16 +144,16 @@ loop_sound (suc d) k ss e =
 name_is : (s : Sym) (b : List ℕ) → kind s ≡ of_name b → s ≡ symbol.name b
 name_is s b e = grind (arith, nat_tests)
 
-if_is : (s : Sym) → kind s ≡ ofIf → sym_is_word w.If s ≡ true
+if_is : (s : Sym) → kind s ≡ of_if → sym_is_word w.If s ≡ true
 if_is s e = grind (arith, nat_tests)
 
-while_is : (s : Sym) → kind s ≡ ofWhile → sym_is_word w.While s ≡ true
+while_is : (s : Sym) → kind s ≡ of_while → sym_is_word w.While s ≡ true
 while_is s e = grind (arith, nat_tests)
 
-repeat_is : (s : Sym) → kind s ≡ ofRepeat → sym_is_word w.Repeat s ≡ true
+repeat_is : (s : Sym) → kind s ≡ of_repeat → sym_is_word w.Repeat s ≡ true
 repeat_is s e = grind (arith, nat_tests)
 
-loop_is : (s : Sym) → kind s ≡ ofLoop → sym_is_word w.Loop s ≡ true
+loop_is : (s : Sym) → kind s ≡ of_loop → sym_is_word w.Loop s ≡ true
 loop_is s e = grind (arith, nat_tests)
 
 statement_step : (d : ℕ) → KeepsIn d → (ss : List PlacedSym) → Holds (λ t rest. StmtR t d ss rest) (statement_of d (inner level d) ss)
@@ -162,11 +162,11 @@ statement_step d k ss = go (kind (head ss).symbol) refl
   where
     go : (x : Kind) → kind (head ss).symbol ≡ x → Holds (λ t rest. StmtR t d ss rest) (statement_at d (inner level d) x ss)
     go (of_name b) e = named_sound d (b, (head ss).place) (tail ss) ss (starts ss (symbol.name b) (name_is (head ss).symbol b e) (λ z. grind arith))
-    go ofIf e = if_sound d k ss (if_is (head ss).symbol e)
-    go ofWhile e = while_sound d k ss (while_is (head ss).symbol e)
-    go ofRepeat e = repeat_sound d k ss (repeat_is (head ss).symbol e)
-    go ofLoop e = loop_sound d k ss (loop_is (head ss).symbol e)
-    go ofNothing e = done refl
+    go of_if e = if_sound d k ss (if_is (head ss).symbol e)
+    go of_while e = while_sound d k ss (while_is (head ss).symbol e)
+    go of_repeat e = repeat_sound d k ss (repeat_is (head ss).symbol e)
+    go of_loop e = loop_sound d k ss (loop_is (head ss).symbol e)
+    go of_nothing e = done refl
 
 pub statement_sound : (d : ℕ) → Keeps d
 unfolding statement inner

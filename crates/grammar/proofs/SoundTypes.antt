@@ -8,9 +8,9 @@ use Rattle.symbol.specs.declared.word.Word.TheVariants as w
 use Rattle.cursor.specs.Kinds.{sym_is_mark, sym_is_word}
 use Rattle.cursor.specs.Reading.{head, tail, Lex, inner}
 use Rattle.expression_tree.specs.declared.Sign.{Sign}
-use Rattle.expression_parser.specs.Classes.{sign, Start, start, a_number, aCharacter, aName, anOpening, aNot, other}
+use Rattle.expression_parser.specs.Classes.{sign, Start, start, a_number, a_character, a_name, an_opening, a_not, other}
 use Rattle.type_tree.specs.Trees.{Typ, secs}
-use Rattle.type_parser.specs.Readers.{constant_at, signed_of, constant_of, Kind, of_name, ofEnumeration, ofArray, ofRecord, ofOther, kind, enumeration_of, array_at, section_of, record_at, type_at, type_of, type_expr_of}
+use Rattle.type_parser.specs.Readers.{constant_at, signed_of, constant_of, Kind, of_name, of_enumeration, of_array, of_record, of_other, kind, enumeration_of, array_at, section_of, record_at, type_at, type_of, type_expr_of}
 use Rattle.grammar.specs.Phrases.{Phrase, ◌then◌, mark, idents, repeated, separated}
 use Rattle.grammar.specs.Types.{ConR, TypR, SecsR, MoreR}
 use Rattle.grammar.proofs.Holding.{Holds, done, faulted, bind, starts, starts_mark, starts_word, mark_holds, word_holds, number_holds, idents_holds, list_holds}
@@ -22,10 +22,10 @@ constant_sound ss = go (sign (head ss).symbol) refl
   where
     plain : (x : Start) → start (head ss).symbol ≡ x → Holds (λ t rest. ConR t ss rest) (constant_at x ss)
     plain (a_number b) e = done (ss, refl, starts_number b ss e)
-    plain (aCharacter b) e = done (starts_character b ss e)
-    plain (aName b) e = done (starts_name b ss e)
-    plain anOpening e = faulted
-    plain aNot e = faulted
+    plain (a_character b) e = done (starts_character b ss e)
+    plain (a_name b) e = done (starts_name b ss e)
+    plain an_opening e = faulted
+    plain a_not e = faulted
     plain other e = faulted
 
     go : (x : Option Sign) → sign (head ss).symbol ≡ x → Holds (λ t rest. ConR t ss rest) (signed_of x ss)
@@ -37,13 +37,13 @@ constant_sound ss = go (sign (head ss).symbol) refl
 name_is : (s : Sym) (b : List ℕ) → kind s ≡ of_name b → s ≡ symbol.name b
 name_is s b e = grind (arith, nat_tests)
 
-enumeration_is : (s : Sym) → kind s ≡ ofEnumeration → sym_is_mark m.LeftParen s ≡ true
+enumeration_is : (s : Sym) → kind s ≡ of_enumeration → sym_is_mark m.LeftParen s ≡ true
 enumeration_is s e = grind (arith, nat_tests)
 
-array_is : (s : Sym) → kind s ≡ ofArray → sym_is_word w.Array s ≡ true
+array_is : (s : Sym) → kind s ≡ of_array → sym_is_word w.Array s ≡ true
 array_is s e = grind (arith, nat_tests)
 
-record_is : (s : Sym) → kind s ≡ ofRecord → sym_is_word w.Record s ≡ true
+record_is : (s : Sym) → kind s ≡ of_record → sym_is_word w.Record s ≡ true
 record_is s e = grind (arith, nat_tests)
 
 -- ---- types
@@ -103,10 +103,10 @@ type_step d k ss = go (kind (head ss).symbol) refl
   where
     go : (x : Kind) → kind (head ss).symbol ≡ x → Holds (λ t rest. TypR t d ss rest) (type_at (inner type_expr_of d) x ss)
     go (of_name b) e = done (starts ss (symbol.name b) (name_is (head ss).symbol b e) (λ z. grind arith))
-    go ofEnumeration e = enumeration_sound d ss (enumeration_is (head ss).symbol e)
-    go ofArray e = array_sound d k ss (array_is (head ss).symbol e)
-    go ofRecord e = record_sound d k ss (record_is (head ss).symbol e)
-    go ofOther e = faulted
+    go of_enumeration e = enumeration_sound d ss (enumeration_is (head ss).symbol e)
+    go of_array e = array_sound d k ss (array_is (head ss).symbol e)
+    go of_record e = record_sound d k ss (record_is (head ss).symbol e)
+    go of_other e = faulted
 
 pub type_sound : (d : ℕ) → Keeps d
 unfolding type_expr_of inner

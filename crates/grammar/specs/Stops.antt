@@ -4,7 +4,7 @@ use Rattle.symbol.specs.Symbols.{Sym}
 use Rattle.symbol.specs.declared.mark.Mark.TheVariants as m
 use Rattle.cursor.specs.Kinds.{sym_is_mark}
 use Rattle.expression_parser.specs.Classes.{selecting, multiplying, adding, relation}
-use Rattle.syntax.specs.Statements.{following, nothing, kind, ofNothing}
+use Rattle.syntax.specs.Statements.{following, nothing, kind, of_nothing}
 
 -- behind a factor: no selector, no actuals
 abbrev pub StopF : Sym → Type 0
@@ -24,7 +24,7 @@ StopE s = StopS s × (relation s ≡ None)
 
 -- behind a statement: no expression goes on, nothing that follows a name, and no other statement begins
 abbrev pub StopA : Sym → Type 0
-StopA s = StopE s × (following s ≡ nothing) × (kind s ≡ ofNothing)
+StopA s = StopE s × (following s ≡ nothing) × (kind s ≡ of_nothing)
 
 -- behind a block: no semicolon either
 abbrev pub StopB : Sym → Type 0

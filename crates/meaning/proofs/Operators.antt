@@ -10,7 +10,7 @@ use Rattle.integer.specs.Integers.{greatest, bounded, floor_pair, truncated, quo
 use Rattle.program.specs.Types.{Simple, Writing, Shape, fits, within, element_cell}
 use Rattle.program.specs.Types.Simple.{integer, boolean}
 use Rattle.program.specs.Trees.{Sign, Operator}
-use Rattle.program.specs.Trees.Sign.{plus-sign, minus-sign, not-sign}
+use Rattle.program.specs.Trees.Sign.{plus_sign, minus_sign, not_sign}
 use Rattle.program.specs.Trees.Operator.{plus, minus, times, over, div, modulo, xor, eq, ne, lt, le, gt, ge}
 use Rattle.program.specs.WellFormed.{ok_sign, ok_operator}
 use Rattle.meaning.specs.Actions.{Action, bit, signed, operated, indexed}
@@ -126,15 +126,15 @@ operator_fits gt u t x y v h fx fy e = truth_fits t _ v h e
 operator_fits ge u t x y v h fx fy e = truth_fits t _ v h e
 
 pub sign_fits : (g : Sign) (t : Simple) (x v : ℤ) → ok_sign g t → Fits t x → signed g x ≡ Ok v → Fits t v
-sign_fits plus-sign t x v h fx e = subst (Fits t) (ok_inj e) fx
-sign_fits minus-sign t x v h fx e = as_type v h (bounded_ok (neg_ℤ x) v e)
-sign_fits not-sign t x v h fx e = truth_fits t _ v h e
+sign_fits plus_sign t x v h fx e = subst (Fits t) (ok_inj e) fx
+sign_fits minus_sign t x v h fx e = as_type v h (bounded_ok (neg_ℤ x) v e)
+sign_fits not_sign t x v h fx e = truth_fits t _ v h e
 
 -- a trap has its cause
 pub sign_caused : (g : Sign) (t : Simple) (x : ℤ) (u : Trap) → ok_sign g t → Fits t x → signed g x ≡ Err u → ⊥
-sign_caused plus-sign t x u h fx e = ok_err e
-sign_caused minus-sign t x u h fx e = bounded_small (neg_ℤ x) x (neg_small x) (as_type x (sym h) fx) u e
-sign_caused not-sign t x u h fx e = ok_err e
+sign_caused plus_sign t x u h fx e = ok_err e
+sign_caused minus_sign t x u h fx e = bounded_small (neg_ℤ x) x (neg_small x) (as_type x (sym h) fx) u e
+sign_caused not_sign t x u h fx e = ok_err e
 
 caused_by : {a : Action} {d : ℕ} {t u : Trap} → t ≡ u → Causes t d a → Causes u d a
 caused_by {a} {d} e c = subst (λ t. Causes t d a) e c

@@ -5,7 +5,7 @@ use Rattle.fault.specs.declared.Trap.TheVariants.{Index, Depth, Foreign}
 use Rattle.integer.specs.Integers.{sum, difference, product, negated, truncated, quotient, remainder}
 use Rattle.program.specs.Types.{Simple, Writing, Shape, size, within, fits, element_cell}
 use Rattle.program.specs.Trees.{At, Variable, Formal, Sign, Operator, Junction, Program}
-use Rattle.program.specs.Trees.Sign.{plus-sign, minus-sign, not-sign}
+use Rattle.program.specs.Trees.Sign.{plus_sign, minus_sign, not_sign}
 use Rattle.program.specs.Trees.Operator.{plus, minus, times, over, div, modulo, xor, eq, ne, lt, le, gt, ge}
 use Rattle.program.specs.Trees.Formal.{by_const, by_var}
 use Rattle.program.specs.Cells.{table}
@@ -52,9 +52,9 @@ abbrev pub eq_z : ℤ → ℤ → Bool
 eq_z x y = int_le x y && int_le y x
 
 abbrev pub signed : Sign → ℤ → Result ℤ Trap
-signed plus-sign v = Ok v
-signed minus-sign v = negated v
-signed not-sign v = Ok (bit (not (truth v)))
+signed plus_sign v = Ok v
+signed minus_sign v = negated v
+signed not_sign v = Ok (bit (not (truth v)))
 
 abbrev pub operated : Operator → ℤ → ℤ → Result ℤ Trap
 operated plus x y = sum x y

@@ -4,7 +4,7 @@ use Rattle.fault.specs.declared.Trap.TheVariants.{Index, Divisor, Beyond, Depth,
 use Rattle.program.specs.Trees.{Variable, Formal, Designator, Actuals, Stmt, Procedure, Function, Program}
 use Rattle.program.specs.Types.Simple.{integer, boolean, char}
 use Rattle.program.specs.Types.Shape.{simple, array}
-use Rattle.program.specs.Trees.Sign.{minus-sign}
+use Rattle.program.specs.Trees.Sign.{minus_sign}
 use Rattle.program.specs.Trees.Operator.{plus, minus, over, div, modulo, eq, lt}
 use Rattle.program.specs.Trees.Junction.{and}
 use Rattle.program.specs.Trees.Name.{own, formal}
@@ -78,7 +78,7 @@ sign_last = record {
   modules = 0 ∷ [];
   variables = sign_last_x ∷ [];
   bodies = (assign (at 32 0) integer (whole (own sign_last_x)) (unary (at
-      37 0) minus-sign (binary (at 38 0) div integer (constant (at 38 0) integer (pos 15)) (constant (at 45 0) integer (pos 4))))) ∷ [];
+      37 0) minus_sign (binary (at 38 0) div integer (constant (at 38 0) integer (pos 15)) (constant (at 45 0) integer (pos 4))))) ∷ [];
 }
 
 -- module m; var x: integer; begin x := 7 - 2 end m.

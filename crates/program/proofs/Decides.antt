@@ -15,7 +15,7 @@ use Rattle.program.specs.Types.Simple.{integer, boolean, char, enumeration}
 use Rattle.program.specs.Types.Shape.{simple, array, record_of}
 use Rattle.program.specs.Types.Fields.{no_field, field_and}
 use Rattle.program.specs.Trees.{Variable, Sign, Operator, Name, Formal, Expr, Designator, Actuals, Stmt, Arms, Parts, Procedure, Function, Program}
-use Rattle.program.specs.Trees.Sign.{plus-sign, minus-sign, not-sign}
+use Rattle.program.specs.Trees.Sign.{plus_sign, minus_sign, not_sign}
 use Rattle.program.specs.Trees.Operator.{plus, minus, times, over, div, modulo, xor, eq, ne, lt, le, gt, ge}
 use Rattle.program.specs.Trees.Name.{own, formal}
 use Rattle.program.specs.Trees.Formal.{by_const, by_var}
@@ -242,9 +242,9 @@ field_is (field_and u fs) o s = (
 )
 
 sign_is : (g : Sign) (t : Simple) → Decides (sign_ok g t) (ok_sign g t)
-sign_is plus-sign t = simple_is t integer
-sign_is minus-sign t = simple_is t integer
-sign_is not-sign t = simple_is t boolean
+sign_is plus_sign t = simple_is t integer
+sign_is minus_sign t = simple_is t integer
+sign_is not_sign t = simple_is t boolean
 
 arithmetic : (u t : Simple) → Decides (same_simple u integer && same_simple t integer) ((u ≡ integer) × (t ≡ integer))
 arithmetic u t = two _ _ (simple_is u integer) (simple_is t integer)

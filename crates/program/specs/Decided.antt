@@ -7,7 +7,7 @@ use Rattle.program.specs.Types.Simple.{integer, boolean, char, enumeration}
 use Rattle.program.specs.Types.Shape.{simple, array, record_of}
 use Rattle.program.specs.Types.Fields.{no_field, field_and}
 use Rattle.program.specs.Trees.{At, Variable, Sign, Operator, Name, Formal, Expr, Designator, Actuals, Stmt, Arms, Parts, Procedure, Function, Program}
-use Rattle.program.specs.Trees.Sign.{plus-sign, minus-sign, not-sign}
+use Rattle.program.specs.Trees.Sign.{plus_sign, minus_sign, not_sign}
 use Rattle.program.specs.Trees.Operator.{plus, minus, times, over, div, modulo, xor, eq, ne, lt, le, gt, ge}
 use Rattle.program.specs.Trees.Name.{own, formal}
 use Rattle.program.specs.Trees.Formal.{by_const, by_var}
@@ -92,9 +92,9 @@ has_field no_field o s = false
 has_field (field_and u fs) o s = (eqb o 0 && same_shape u s) || (leb (size u) o && has_field fs (o - size u) s)
 
 abbrev pub sign_ok : Sign → Simple → Bool
-sign_ok plus-sign t = same_simple t integer
-sign_ok minus-sign t = same_simple t integer
-sign_ok not-sign t = same_simple t boolean
+sign_ok plus_sign t = same_simple t integer
+sign_ok minus_sign t = same_simple t integer
+sign_ok not_sign t = same_simple t boolean
 
 abbrev pub operator_ok : Operator → Simple → Simple → Bool
 operator_ok plus u t = same_simple u integer && same_simple t integer

@@ -18,7 +18,7 @@ pub record Variable : Type 0 where
   pub fixed : Bool
 
 pub data Sign : Type 0 where
-  plus-sign minus-sign not-sign : Sign
+  plus_sign minus_sign not_sign : Sign
 
 pub data Operator : Type 0 where
   plus minus times over div modulo xor eq ne lt le gt ge : Operator

@@ -8,7 +8,7 @@ use Rattle.program.specs.Types.{Simple, Writing, Shape, Field, fits, sane}
 use Rattle.program.specs.Types.Simple.{integer, boolean}
 use Rattle.program.specs.Types.Shape.{simple, array, record_of}
 use Rattle.program.specs.Trees.{At, Variable, Sign, Operator, Name, Formal, Expr, Designator, Actuals, Stmt, Arms, Parts, Procedure, Function, Program}
-use Rattle.program.specs.Trees.Sign.{plus-sign, minus-sign, not-sign}
+use Rattle.program.specs.Trees.Sign.{plus_sign, minus_sign, not_sign}
 use Rattle.program.specs.Trees.Operator.{plus, minus, times, over, div, modulo, xor, eq, ne, lt, le, gt, ge}
 use Rattle.program.specs.Trees.Name.{own, formal}
 use Rattle.program.specs.Trees.Formal.{by_const, by_var}
@@ -29,9 +29,9 @@ Among x (y ∷ ys) = (x ≡ y) ⊎ Among x ys
 
 -- signs keep the type of their operand
 abbrev pub ok_sign : Sign → Simple → Type 0
-ok_sign plus-sign t = t ≡ integer
-ok_sign minus-sign t = t ≡ integer
-ok_sign not-sign t = t ≡ boolean
+ok_sign plus_sign t = t ≡ integer
+ok_sign minus_sign t = t ≡ integer
+ok_sign not_sign t = t ≡ boolean
 
 -- operands of the type u give a result of the type t
 abbrev pub ok_operator : Operator → Simple → Simple → Type 0

@@ -36,7 +36,7 @@ fn named<'s, 't>(
     }
 }
 
-#[cycle(block_elsif_exit_if_statement_loop_statement_optional_repeat_statement_statement_while_statement)]
+#[cycle(statements)]
 pub fn block<'s, 't>(
     cursor: &mut Cursor<'s, 't>,
     allowance: u8,
@@ -53,7 +53,7 @@ pub fn block<'s, 't>(
     Ok(Statements::of_reversed(cursor.heap, list)?)
 }
 
-#[cycle(block_elsif_exit_if_statement_loop_statement_optional_repeat_statement_statement_while_statement)]
+#[cycle(statements)]
 fn statement<'s, 't>(cursor: &mut Cursor<'s, 't>, allowance: u8) -> Result<Box<Statement<'t>>, Halt>
     ensures { Follows (λ b. stmt_of b.value) result (unread cursor.new) (statement_at allowance (unread cursor.old)) }
 {
@@ -79,7 +79,7 @@ fn statement<'s, 't>(cursor: &mut Cursor<'s, 't>, allowance: u8) -> Result<Box<S
 }
 
 // A block behind the word, if the word stands here.
-#[cycle(block_elsif_exit_if_statement_loop_statement_optional_repeat_statement_statement_while_statement)]
+#[cycle(statements)]
 pub fn optional<'s, 't>(
     cursor: &mut Cursor<'s, 't>,
     allowance: u8,
@@ -94,7 +94,7 @@ pub fn optional<'s, 't>(
     block(cursor, allowance)
 }
 
-#[cycle(block_elsif_exit_if_statement_loop_statement_optional_repeat_statement_statement_while_statement)]
+#[cycle(statements)]
 fn if_statement<'s, 't>(
     cursor: &mut Cursor<'s, 't>,
     allowance: u8,
@@ -117,7 +117,7 @@ fn if_statement<'s, 't>(
 }
 
 // Reads one elsif, and puts it in front of the others.
-#[cycle(block_elsif_exit_if_statement_loop_statement_optional_repeat_statement_statement_while_statement)]
+#[cycle(statements)]
 fn elsif<'s, 't>(
     cursor: &mut Cursor<'s, 't>,
     allowance: u8,
@@ -132,7 +132,7 @@ fn elsif<'s, 't>(
     Ok(Elsifs::of_elsif(cursor.heap, condition, then, others)?)
 }
 
-#[cycle(block_elsif_exit_if_statement_loop_statement_optional_repeat_statement_statement_while_statement)]
+#[cycle(statements)]
 fn while_statement<'s, 't>(
     cursor: &mut Cursor<'s, 't>,
     allowance: u8,
@@ -148,7 +148,7 @@ fn while_statement<'s, 't>(
     Ok(Statement::of_while(cursor.heap, place, condition, body)?)
 }
 
-#[cycle(block_elsif_exit_if_statement_loop_statement_optional_repeat_statement_statement_while_statement)]
+#[cycle(statements)]
 fn repeat_statement<'s, 't>(
     cursor: &mut Cursor<'s, 't>,
     allowance: u8,
@@ -163,7 +163,7 @@ fn repeat_statement<'s, 't>(
     Ok(Statement::of_repeat(cursor.heap, place, body, condition)?)
 }
 
-#[cycle(block_elsif_exit_if_statement_loop_statement_optional_repeat_statement_statement_while_statement)]
+#[cycle(statements)]
 fn loop_statement<'s, 't>(
     cursor: &mut Cursor<'s, 't>,
     allowance: u8,
@@ -183,7 +183,7 @@ fn loop_statement<'s, 't>(
 }
 
 // Reads one way out of a loop, and puts it in front of the others.
-#[cycle(block_elsif_exit_if_statement_loop_statement_optional_repeat_statement_statement_while_statement)]
+#[cycle(statements)]
 fn exit<'s, 't>(
     cursor: &mut Cursor<'s, 't>,
     allowance: u8,

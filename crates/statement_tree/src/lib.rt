@@ -48,7 +48,7 @@ pub enum Exits<'t> {
 // ---- how trees are let go: the lists by a loop, since they can be as long as a text
 
 impl Drop for Statement<'_> {
-    #[cycle(drop_drop_drop_drop_drop)]
+    #[cycle(drops)]
     fn drop(self) {
         match self {
             Statement::Empty => {}
@@ -79,7 +79,7 @@ impl Drop for Statement<'_> {
 }
 
 impl Drop for Guarded<'_> {
-    #[cycle(drop_drop_drop_drop_drop)]
+    #[cycle(drops)]
     fn drop(self) {
         match self {
             Guarded::Guard(condition, block) => {
@@ -91,7 +91,7 @@ impl Drop for Guarded<'_> {
 }
 
 impl Drop for Statements<'_> {
-    #[cycle(drop_drop_drop_drop_drop)]
+    #[cycle(drops)]
     fn drop(mut self) {
         loop {
             match self {
@@ -106,7 +106,7 @@ impl Drop for Statements<'_> {
 }
 
 impl Drop for Elsifs<'_> {
-    #[cycle(drop_drop_drop_drop_drop)]
+    #[cycle(drops)]
     fn drop(mut self) {
         loop {
             match self {
@@ -121,7 +121,7 @@ impl Drop for Elsifs<'_> {
 }
 
 impl Drop for Exits<'_> {
-    #[cycle(drop_drop_drop_drop_drop)]
+    #[cycle(drops)]
     fn drop(mut self) {
         loop {
             match self {

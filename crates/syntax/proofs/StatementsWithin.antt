@@ -10,7 +10,7 @@ use Rattle.cursor.proofs.Loops.{Within, Reading, All, Turns, all_inner, within_a
 use Rattle.expression_parser.specs.Readers.{expression_of, enclosed_of, selectors_of, factor}
 use Rattle.expression_parser.proofs.Within.{factor_within, expression_within, enclosed_within, selectors_within}
 use Rattle.syntax.specs.StatementTrees.{Stmt}
-use Rattle.syntax.specs.Statements.{Following, anActual, aTarget, nothing, following, named_at, named_of, block_of, optional_of, Level, begins, elsif_of, elsifs_of, exit_of, exits_of, if_of, while_of, repeat_of, loop_of, Kind, of_name, ofIf, ofWhile, ofRepeat, ofLoop, ofNothing, kind, statement_at, statement_of, statement}
+use Rattle.syntax.specs.Statements.{Following, an_actual, a_target, nothing, following, named_at, named_of, block_of, optional_of, Level, begins, elsif_of, elsifs_of, exit_of, exits_of, if_of, while_of, repeat_of, loop_of, Kind, of_name, of_if, of_while, of_repeat, of_loop, of_nothing, kind, statement_at, statement_of, statement}
 
 pub expr_within : (d : ℕ) → Reading (expression_of (factor d))
 expr_within d ss = expression_within (factor d) (factor_within d) ss
@@ -19,8 +19,8 @@ factors : (d : ℕ) → All Reading (inner factor d)
 factors d = all_inner Reading factor d factor_within
 
 named_at_lem : (d : ℕ) (n : Lex) (x : Following) → Reading (named_at d n x)
-named_at_lem d n anActual ss = within_mapped _ _ (enclosed_of (inner factor d) RightParen ss) (within_tail (enclosed_of (inner factor d) RightParen ss) ss (enclosed_within (inner factor d) (factors d) RightParen ss))
-named_at_lem d n aTarget ss =
+named_at_lem d n an_actual ss = within_mapped _ _ (enclosed_of (inner factor d) RightParen ss) (within_tail (enclosed_of (inner factor d) RightParen ss) ss (enclosed_within (inner factor d) (factors d) RightParen ss))
+named_at_lem d n a_target ss =
     within_after _ (selectors_of (inner factor d) ss) _ (selectors_within (inner factor d) (factors d) ss)
     (λ xs rest. within_after _ (expect_mark Becomes rest) _ (mark_within Becomes rest) (λ _ left. within_mapped _ _ (expression_of (factor d) left) (expr_within d left)))
 named_at_lem d n nothing ss = omega arith
@@ -99,11 +99,11 @@ module _ (i : Option Level) (v : All Sound i) where
 
   statement_at_lem : (d : ℕ) (k : Kind) → Reading (statement_at d i k)
   statement_at_lem d (of_name b) ss = within_tail (named_of d _ (tail ss)) ss (named_within d _ (tail ss))
-  statement_at_lem d ofIf ss = within_tail (if_of i ss) ss (if_within ss)
-  statement_at_lem d ofWhile ss = within_tail (while_of i ss) ss (while_within ss)
-  statement_at_lem d ofRepeat ss = within_tail (repeat_of i ss) ss (repeat_within ss)
-  statement_at_lem d ofLoop ss = within_tail (loop_of i ss) ss (loop_statement_within ss)
-  statement_at_lem d ofNothing ss = omega arith
+  statement_at_lem d of_if ss = within_tail (if_of i ss) ss (if_within ss)
+  statement_at_lem d of_while ss = within_tail (while_of i ss) ss (while_within ss)
+  statement_at_lem d of_repeat ss = within_tail (repeat_of i ss) ss (repeat_within ss)
+  statement_at_lem d of_loop ss = within_tail (loop_of i ss) ss (loop_statement_within ss)
+  statement_at_lem d of_nothing ss = omega arith
 
   statement_of_within : (d : ℕ) → Reading (statement_of d i)
   unfolding statement_of

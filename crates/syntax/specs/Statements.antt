@@ -12,16 +12,16 @@ use Rattle.syntax.specs.StatementTrees.{Stmt, empty, assignment, procedure_call,
 
 -- what follows a name: actuals, the rest of a variable that is assigned, or nothing
 pub data Following : Type 0 where
-  anActual aTarget nothing : Following
+  an_actual a_target nothing : Following
 
 abbrev pub following : Sym → Following
 following s =
-    cond (sym_is_mark LeftParen s) anActual
-    (cond (sym_is_mark Becomes s) aTarget (cond (sym_is_mark Dot s) aTarget (cond (sym_is_mark LeftBracket s) aTarget nothing)))
+    cond (sym_is_mark LeftParen s) an_actual
+    (cond (sym_is_mark Becomes s) a_target (cond (sym_is_mark Dot s) a_target (cond (sym_is_mark LeftBracket s) a_target nothing)))
 
 abbrev pub named_at : ℕ → Lex → Following → Reads Stmt
-named_at d n anActual ss = mapped (λ es. procedure_call n (exprs es)) (enclosed_of (inner factor d) RightParen ss)
-named_at d n aTarget ss =
+named_at d n an_actual ss = mapped (λ es. procedure_call n (exprs es)) (enclosed_of (inner factor d) RightParen ss)
+named_at d n a_target ss =
     after (selectors_of (inner factor d) ss)
     (λ xs rest. after (expect_mark Becomes rest)
     (λ _ left. mapped (assignment n (sels xs)) (expression_of (factor d) left)))
@@ -111,27 +111,27 @@ loop_of i ss =
 -- what a statement begins with
 pub data Kind : Type 0 where
   of_name : List ℕ → Kind
-  ofIf ofWhile ofRepeat ofLoop ofNothing : Kind
+  of_if of_while of_repeat of_loop of_nothing : Kind
 
 abbrev pub kind : Sym → Kind
 kind (name b) = of_name b
-kind (number b) = ofNothing
-kind (character b) = ofNothing
+kind (number b) = of_nothing
+kind (character b) = of_nothing
 kind (word v) =
-    cond (sym_is_word w.If (word v)) ofIf
-    (cond (sym_is_word w.While (word v)) ofWhile
-    (cond (sym_is_word w.Repeat (word v)) ofRepeat
-    (cond (sym_is_word w.Loop (word v)) ofLoop ofNothing)))
-kind (mark m) = ofNothing
-kind ending = ofNothing
+    cond (sym_is_word w.If (word v)) of_if
+    (cond (sym_is_word w.While (word v)) of_while
+    (cond (sym_is_word w.Repeat (word v)) of_repeat
+    (cond (sym_is_word w.Loop (word v)) of_loop of_nothing)))
+kind (mark m) = of_nothing
+kind ending = of_nothing
 
 abbrev pub statement_at : ℕ → Option Level → Kind → Reads Stmt
 statement_at d i (of_name b) ss = named_of d (b, (head ss).place) (tail ss)
-statement_at d i ofIf ss = if_of i ss
-statement_at d i ofWhile ss = while_of i ss
-statement_at d i ofRepeat ss = repeat_of i ss
-statement_at d i ofLoop ss = loop_of i ss
-statement_at d i ofNothing ss = got empty ss
+statement_at d i of_if ss = if_of i ss
+statement_at d i of_while ss = while_of i ss
+statement_at d i of_repeat ss = repeat_of i ss
+statement_at d i of_loop ss = loop_of i ss
+statement_at d i of_nothing ss = got empty ss
 
 unfoldable pub statement_of : ℕ → Option Level → Reads Stmt
 statement_of d i ss = statement_at d i (kind (head ss).symbol) ss

@@ -8,7 +8,7 @@ use Rattle.cursor.specs.Reading.{Out, Reads, got, fault, after, mapped, head, ta
 use Rattle.cursor.proofs.Loops.{after_after}
 use Rattle.cursor.proofs.Steps.{nested_none, nested_some}
 use Rattle.expression_tree.specs.declared.Sign.{Sign}
-use Rattle.expression_parser.specs.Classes.{sign, Start, a_number, aCharacter, aName, anOpening, aNot, other, start}
+use Rattle.expression_parser.specs.Classes.{sign, Start, a_number, a_character, a_name, an_opening, a_not, other, start}
 use Rattle.expression_parser.specs.Readers.{unsigned}
 use Rattle.type_tree.specs.Trees.{Con, Typ}
 use Rattle.type_tree.specs.Trees as tree
@@ -18,10 +18,10 @@ use Rattle.type_parser.specs.Readers.{constant_at, signed_of, constant_of, Kind,
 
 abbrev pub constant_fault : Start → Bool
 constant_fault (a_number b) = false
-constant_fault (aCharacter b) = false
-constant_fault (aName b) = false
-constant_fault anOpening = true
-constant_fault aNot = true
+constant_fault (a_character b) = false
+constant_fault (a_name b) = false
+constant_fault an_opening = true
+constant_fault a_not = true
 constant_fault other = true
 
 no_true : false ≡ true → ⊥
@@ -44,10 +44,10 @@ module _ (ss rest : List PlacedSym) (g : Option Sign) where
   pub constant_number : (left : List PlacedSym) (b : List ℕ) (k : ℕ) → g ≡ sign (head ss).symbol → g ≡ None → rest ≡ unsigned g ss → start (head rest).symbol ≡ a_number b → k ≡ (head rest).place → left ≡ tail rest → constant_of ss ≡ got (tree.signed None (b, k)) left
   constant_number left b k e s r x p l = constant_at_lem ss rest g _ e s r x ∙ rw (p, l)
 
-  pub constant_name_lem : (left : List PlacedSym) (b : List ℕ) (k : ℕ) → g ≡ sign (head ss).symbol → g ≡ None → rest ≡ unsigned g ss → start (head rest).symbol ≡ aName b → k ≡ (head rest).place → left ≡ tail rest → constant_of ss ≡ got (tree.constant_name (b, k)) left
+  pub constant_name_lem : (left : List PlacedSym) (b : List ℕ) (k : ℕ) → g ≡ sign (head ss).symbol → g ≡ None → rest ≡ unsigned g ss → start (head rest).symbol ≡ a_name b → k ≡ (head rest).place → left ≡ tail rest → constant_of ss ≡ got (tree.constant_name (b, k)) left
   constant_name_lem left b k e s r x p l = constant_at_lem ss rest g _ e s r x ∙ rw (p, l)
 
-  pub constant_character_lem : (left : List PlacedSym) (b : List ℕ) (k : ℕ) → g ≡ sign (head ss).symbol → g ≡ None → rest ≡ unsigned g ss → start (head rest).symbol ≡ aCharacter b → k ≡ (head rest).place → left ≡ tail rest → constant_of ss ≡ got (tree.constant_character (b, k)) left
+  pub constant_character_lem : (left : List PlacedSym) (b : List ℕ) (k : ℕ) → g ≡ sign (head ss).symbol → g ≡ None → rest ≡ unsigned g ss → start (head rest).symbol ≡ a_character b → k ≡ (head rest).place → left ≡ tail rest → constant_of ss ≡ got (tree.constant_character (b, k)) left
   constant_character_lem left b k e s r x p l = constant_at_lem ss rest g _ e s r x ∙ rw (p, l)
 
   -- what begins no constant
@@ -56,10 +56,10 @@ module _ (ss rest : List PlacedSym) (g : Option Sign) where
     where
       go : (x : Start) → constant_fault x ≡ true → constant_at x rest ≡ fault Syntax rest
       go (a_number b) h = absurd (no_true h)
-      go (aCharacter b) h = absurd (no_true h)
-      go (aName b) h = absurd (no_true h)
-      go anOpening h = refl
-      go aNot h = refl
+      go (a_character b) h = absurd (no_true h)
+      go (a_name b) h = absurd (no_true h)
+      go an_opening h = refl
+      go a_not h = refl
       go other h = refl
 
 -- ---- types, by their first symbol

@@ -6,16 +6,16 @@ use Rattle.symbol.specs.declared.word.Word.TheVariants.{Of, End}
 use Rattle.cursor.specs.Reading.{Out, Reads, got, fault, after, mapped, head, tail, expect_mark, expect_word, number_of, idents_of, list_of}
 use Rattle.cursor.proofs.Loops.{Within, Reading, All, within_after, within_mapped, within_tail, length_tail, mark_within, word_within, number_within, idents_within, nested_within, list_within}
 use Rattle.expression_tree.specs.declared.Sign.{Sign}
-use Rattle.expression_parser.specs.Classes.{sign, Start, a_number, aCharacter, aName, anOpening, aNot, other, start}
+use Rattle.expression_parser.specs.Classes.{sign, Start, a_number, a_character, a_name, an_opening, a_not, other, start}
 use Rattle.type_tree.specs.Trees.{Typ}
-use Rattle.type_parser.specs.Readers.{constant_at, signed_of, constant_of, Kind, of_name, ofEnumeration, ofArray, ofRecord, ofOther, kind, enumeration_of, array_at, section_of, record_at, type_at, type_of, type_expr_of}
+use Rattle.type_parser.specs.Readers.{constant_at, signed_of, constant_of, Kind, of_name, of_enumeration, of_array, of_record, of_other, kind, enumeration_of, array_at, section_of, record_at, type_at, type_of, type_expr_of}
 
 constant_at_lem : (x : Start) → Reading (constant_at x)
 constant_at_lem (a_number b) ss = length_tail ss
-constant_at_lem (aCharacter b) ss = length_tail ss
-constant_at_lem (aName b) ss = length_tail ss
-constant_at_lem anOpening ss = tt
-constant_at_lem aNot ss = tt
+constant_at_lem (a_character b) ss = length_tail ss
+constant_at_lem (a_name b) ss = length_tail ss
+constant_at_lem an_opening ss = tt
+constant_at_lem a_not ss = tt
 constant_at_lem other ss = tt
 
 signed_within : (g : Option Sign) → Reading (signed_of g)
@@ -57,10 +57,10 @@ module _ (i : Option (Reads Typ)) (w : All Reading i) where
 
   type_at_lem : (k : Kind) → Reading (type_at i k)
   type_at_lem (of_name b) ss = length_tail ss
-  type_at_lem ofEnumeration ss = within_tail (enumeration_of i ss) ss (enumeration_within ss)
-  type_at_lem ofArray ss = within_tail (array_at i ss) ss (array_within ss)
-  type_at_lem ofRecord ss = within_tail (record_at i ss) ss (record_within ss)
-  type_at_lem ofOther ss = tt
+  type_at_lem of_enumeration ss = within_tail (enumeration_of i ss) ss (enumeration_within ss)
+  type_at_lem of_array ss = within_tail (array_at i ss) ss (array_within ss)
+  type_at_lem of_record ss = within_tail (record_at i ss) ss (record_within ss)
+  type_at_lem of_other ss = tt
 
   type_of_within : Reading (type_of i)
   unfolding type_of

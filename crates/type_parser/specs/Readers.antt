@@ -7,15 +7,15 @@ use Rattle.symbol.specs.declared.word.Word.TheVariants.{Array, Record, Of, End}
 use Rattle.cursor.specs.Kinds.{sym_is_mark, sym_is_word}
 use Rattle.cursor.specs.Reading.{Out, Reads, got, fault, after, mapped, head, tail, expect_mark, expect_word, Lex, ident_of, number_of, idents_of, nested, list_of}
 use Rattle.expression_tree.specs.declared.Sign.{Sign}
-use Rattle.expression_parser.specs.Classes.{sign, Start, a_number, aCharacter, aName, anOpening, aNot, other, start}
+use Rattle.expression_parser.specs.Classes.{sign, Start, a_number, a_character, a_name, an_opening, a_not, other, start}
 use Rattle.type_tree.specs.Trees.{Con, Typ, signed, constant_name, constant_character, named, enumeration, array_of, record_of, secs}
 
 abbrev pub constant_at : Start → Reads Con
 constant_at (a_number b) ss = got (signed None (b, (head ss).place)) (tail ss)
-constant_at (aCharacter b) ss = got (constant_character (b, (head ss).place)) (tail ss)
-constant_at (aName b) ss = got (constant_name (b, (head ss).place)) (tail ss)
-constant_at anOpening ss = fault Syntax ss
-constant_at aNot ss = fault Syntax ss
+constant_at (a_character b) ss = got (constant_character (b, (head ss).place)) (tail ss)
+constant_at (a_name b) ss = got (constant_name (b, (head ss).place)) (tail ss)
+constant_at an_opening ss = fault Syntax ss
+constant_at a_not ss = fault Syntax ss
 constant_at other ss = fault Syntax ss
 
 abbrev pub signed_of : Option Sign → Reads Con
@@ -29,15 +29,15 @@ constant_of ss = signed_of (sign (head ss).symbol) ss
 -- what a type begins with
 pub data Kind : Type 0 where
   of_name : List ℕ → Kind
-  ofEnumeration ofArray ofRecord ofOther : Kind
+  of_enumeration of_array of_record of_other : Kind
 
 abbrev pub kind : Sym → Kind
 kind (name b) = of_name b
-kind (number b) = ofOther
-kind (character b) = ofOther
-kind (word w) = cond (sym_is_word Array (word w)) ofArray (cond (sym_is_word Record (word w)) ofRecord ofOther)
-kind (mark m) = cond (sym_is_mark LeftParen (mark m)) ofEnumeration ofOther
-kind ending = ofOther
+kind (number b) = of_other
+kind (character b) = of_other
+kind (word w) = cond (sym_is_word Array (word w)) of_array (cond (sym_is_word Record (word w)) of_record of_other)
+kind (mark m) = cond (sym_is_mark LeftParen (mark m)) of_enumeration of_other
+kind ending = of_other
 
 -- ---- `i` is the reader of types one level deeper, where one is allowed
 
@@ -65,10 +65,10 @@ record_at i ss = nested i ss (λ t rest. after (list_of Semicolon (section_of t)
 
 abbrev pub type_at : Option (Reads Typ) → Kind → Reads Typ
 type_at i (of_name b) ss = got (named (b, (head ss).place)) (tail ss)
-type_at i ofEnumeration ss = enumeration_of i ss
-type_at i ofArray ss = array_at i ss
-type_at i ofRecord ss = record_at i ss
-type_at i ofOther ss = fault Syntax ss
+type_at i of_enumeration ss = enumeration_of i ss
+type_at i of_array ss = array_at i ss
+type_at i of_record ss = record_at i ss
+type_at i of_other ss = fault Syntax ss
 
 -- type = ident | "(" idents ")" | "array" .. | "record" ..
 unfoldable pub type_of : Option (Reads Typ) → Reads Typ

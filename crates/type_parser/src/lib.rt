@@ -62,7 +62,7 @@ fn enumeration<'s, 't>(cursor: &mut Cursor<'s, 't>, allowance: u8) -> Result<Typ
     Ok(TypeExpr::Enumeration(place, names))
 }
 
-#[cycle(array_record_section_type_expr)]
+#[cycle(types)]
 pub fn type_expr<'s, 't>(cursor: &mut Cursor<'s, 't>, allowance: u8) -> Result<TypeExpr<'t>, Halt>
     ensures { Follows typ_of result (unread cursor.new) (type_expr_of allowance (unread cursor.old)) }
 {
@@ -82,7 +82,7 @@ pub fn type_expr<'s, 't>(cursor: &mut Cursor<'s, 't>, allowance: u8) -> Result<T
     }
 }
 
-#[cycle(array_record_section_type_expr)]
+#[cycle(types)]
 fn array<'s, 't>(cursor: &mut Cursor<'s, 't>, allowance: u8) -> Result<TypeExpr<'t>, Halt>
     ensures { Follows typ_of result (unread cursor.new) (array_at (inner type_expr_of allowance) (unread cursor.old)) }
 {
@@ -97,7 +97,7 @@ fn array<'s, 't>(cursor: &mut Cursor<'s, 't>, allowance: u8) -> Result<TypeExpr<
 }
 
 // Reads one section, and puts it in front of the others.
-#[cycle(array_record_section_type_expr)]
+#[cycle(types)]
 fn section<'s, 't>(
     cursor: &mut Cursor<'s, 't>,
     allowance: u8,
@@ -111,7 +111,7 @@ fn section<'s, 't>(
     Ok(Sections::of_section(cursor.heap, names, field, others)?)
 }
 
-#[cycle(array_record_section_type_expr)]
+#[cycle(types)]
 fn record<'s, 't>(cursor: &mut Cursor<'s, 't>, allowance: u8) -> Result<TypeExpr<'t>, Halt>
     ensures { Follows typ_of result (unread cursor.new) (record_at (inner type_expr_of allowance) (unread cursor.old)) }
 {

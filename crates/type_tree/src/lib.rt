@@ -32,7 +32,7 @@ pub enum Sections<'t> {
 // ---- how trees are let go: the list by a loop, since it can be as long as a text
 
 impl Drop for TypeExpr<'_> {
-    #[cycle(drop_drop)]
+    #[cycle(drops)]
     fn drop(self) {
         match self {
             TypeExpr::Named(_) => {}
@@ -48,7 +48,7 @@ impl Drop for TypeExpr<'_> {
 }
 
 impl Drop for Sections<'_> {
-    #[cycle(drop_drop)]
+    #[cycle(drops)]
     fn drop(mut self) {
         loop {
             match self {

@@ -5,7 +5,7 @@ use Rattle.program.specs.Trees.{Variable, Program}
 use Rattle.program.specs.Types.Simple.{integer, boolean}
 use Rattle.program.specs.Types.Shape.{simple, array, record_of}
 use Rattle.program.specs.Types.Fields.{no_field, field_and}
-use Rattle.program.specs.Trees.Sign.{plus-sign, minus-sign}
+use Rattle.program.specs.Trees.Sign.{plus_sign, minus_sign}
 use Rattle.program.specs.Trees.Operator.{plus, over, div, xor, eq}
 use Rattle.program.specs.Trees.Junction.{and, or}
 use Rattle.program.specs.Trees.Name.{own}
@@ -31,7 +31,7 @@ actions = record {
   modules = 0 ∷ [];
   variables = actions_x ∷ actions_r ∷ [];
   bodies = (seq (assign (at 72 0) integer (whole (own actions_x))
-      (unary (at 77 0) plus-sign (value (at 78 0) integer (part (at 78 0) (whole (own actions_r)) (writing 0 0) (field_and (simple integer)
+      (unary (at 77 0) plus_sign (value (at 78 0) integer (part (at 78 0) (whole (own actions_r)) (writing 0 0) (field_and (simple integer)
       no_field) 0)))) (assign (at 83 0) integer (whole (own actions_x)) (constant (at 89 0) integer (negsuc 4)))) ∷ [];
 }
 
@@ -197,7 +197,7 @@ sign = record {
   modules = 0 ∷ [];
   variables = sign_x ∷ [];
   bodies = (assign (at 32 0) integer (whole (own sign_x)) (binary (at 37 0) plus
-      integer (unary (at 37 0) minus-sign (binary (at 38 0) div integer (constant (at 38 0) integer (pos 15)) (constant (at 45 0) integer (pos
+      integer (unary (at 37 0) minus_sign (binary (at 38 0) div integer (constant (at 38 0) integer (pos 15)) (constant (at 45 0) integer (pos
       4)))) (constant (at 49 0) integer (pos 1)))) ∷ [];
 }
 

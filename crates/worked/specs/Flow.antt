@@ -3,7 +3,7 @@ use Rattle.std.specs.Prelude.{◌≡◌, true, [], ◌∷◌, pos, codes}
 use Rattle.program.specs.Trees.{Variable, Program}
 use Rattle.program.specs.Types.Simple.{integer, boolean}
 use Rattle.program.specs.Types.Shape.{simple}
-use Rattle.program.specs.Trees.Sign.{not-sign}
+use Rattle.program.specs.Trees.Sign.{not_sign}
 use Rattle.program.specs.Trees.Operator.{plus, lt, gt}
 use Rattle.program.specs.Trees.Name.{own}
 use Rattle.program.specs.Trees.Expr.{constant, value, unary, binary}
@@ -39,7 +39,7 @@ turns_2 = record {
   modules = 0 ∷ [];
   variables = turns_2_b ∷ [];
   bodies = (repeat (at 32 0) (assign (at 39 0) boolean (whole (own
-      turns_2_b)) (unary (at 44 0) not-sign (value (at 48 0) boolean (whole (own turns_2_b))))) (at 56 0) (unary (at 56 0) not-sign (value (at
+      turns_2_b)) (unary (at 44 0) not_sign (value (at 48 0) boolean (whole (own turns_2_b))))) (at 56 0) (unary (at 56 0) not_sign (value (at
       60 0) boolean (whole (own turns_2_b))))) ∷ [];
 }
 

@@ -4,7 +4,7 @@ use Rattle.program.specs.Trees.{Variable, Procedure, Program}
 use Rattle.program.specs.Types.Simple.{integer, boolean, char}
 use Rattle.program.specs.Types.Shape.{simple, array, record_of}
 use Rattle.program.specs.Types.Fields.{no_field, field_and}
-use Rattle.program.specs.Trees.Sign.{not-sign}
+use Rattle.program.specs.Trees.Sign.{not_sign}
 use Rattle.program.specs.Trees.Name.{own, formal}
 use Rattle.program.specs.Trees.Formal.{by_const, by_var}
 use Rattle.program.specs.Trees.Expr.{constant, value, unary}
@@ -115,7 +115,7 @@ wrong_operand = record {
   modules = 0 ∷ [];
   variables = wrong_operand_b ∷ [];
   bodies = (assign (at 32 0) boolean (whole (own
-      wrong_operand_b)) (unary (at 37 0) not-sign (constant (at 41 0) integer (pos 1)))) ∷ [];
+      wrong_operand_b)) (unary (at 37 0) not_sign (constant (at 41 0) integer (pos 1)))) ∷ [];
 }
 
 -- module m; procedure p(var a: integer); end p; var b: Boolean; begin p(b) end m.

@@ -5,7 +5,7 @@ use Rattle.program.specs.Trees.{Variable, Procedure, Program}
 use Rattle.program.specs.Types.Simple.{integer, boolean, char, enumeration}
 use Rattle.program.specs.Types.Shape.{simple, array, record_of}
 use Rattle.program.specs.Types.Fields.{no_field, field_and}
-use Rattle.program.specs.Trees.Sign.{minus-sign}
+use Rattle.program.specs.Trees.Sign.{minus_sign}
 use Rattle.program.specs.Trees.Operator.{plus, minus, times, over, div, modulo, eq}
 use Rattle.program.specs.Trees.Name.{own}
 use Rattle.program.specs.Trees.Expr.{constant, value, unary, binary}
@@ -31,9 +31,9 @@ divisions_1 = record {
   modules = 0 ∷ [];
   variables = divisions_1_a ∷ divisions_1_b ∷ [];
   bodies = (seq (assign (at 35 0) integer (whole (own
-      divisions_1_a)) (binary (at 40 0) div integer (unary (at 41 0) minus-sign (constant (at 42 0) integer (pos 2147483647))) (constant (at
+      divisions_1_a)) (binary (at 40 0) div integer (unary (at 41 0) minus_sign (constant (at 42 0) integer (pos 2147483647))) (constant (at
       58 0) integer (pos 2)))) (assign (at 61 0) integer (whole (own divisions_1_b)) (binary (at 66 0) modulo integer (unary (at 67 0)
-      minus-sign (constant (at 68 0) integer (pos 7))) (constant (at 75 0) integer (pos 2))))) ∷ [];
+      minus_sign (constant (at 68 0) integer (pos 7))) (constant (at 75 0) integer (pos 2))))) ∷ [];
 }
 
 -- module m; var a: integer; begin a := 7 / (-2) end m.
@@ -45,7 +45,7 @@ divisions_2 = record {
   modules = 0 ∷ [];
   variables = divisions_2_a ∷ [];
   bodies = (assign (at 32 0) integer (whole (own divisions_2_a))
-      (binary (at 37 0) over integer (constant (at 37 0) integer (pos 7)) (unary (at 42 0) minus-sign (constant (at 43 0) integer (pos 2)))))
+      (binary (at 37 0) over integer (constant (at 37 0) integer (pos 7)) (unary (at 42 0) minus_sign (constant (at 43 0) integer (pos 2)))))
       ∷ [];
 }
 
@@ -58,7 +58,7 @@ divisions_3 = record {
   modules = 0 ∷ [];
   variables = divisions_3_a ∷ [];
   bodies = (assign (at 32 0) integer (whole (own divisions_3_a))
-      (binary (at 37 0) modulo integer (constant (at 37 0) integer (pos 7)) (unary (at 44 0) minus-sign (constant (at 45 0) integer (pos
+      (binary (at 37 0) modulo integer (constant (at 37 0) integer (pos 7)) (unary (at 44 0) minus_sign (constant (at 45 0) integer (pos
       2))))) ∷ [];
 }
 
@@ -71,7 +71,7 @@ beyond_1 = record {
   modules = 0 ∷ [];
   variables = beyond_1_x ∷ [];
   bodies = (assign (at 32 0) integer (whole (own beyond_1_x)) (binary (at
-      37 0) minus integer (unary (at 37 0) minus-sign (constant (at 38 0) integer (pos 2147483647))) (constant (at 51 0) integer (pos 1)))) ∷
+      37 0) minus integer (unary (at 37 0) minus_sign (constant (at 38 0) integer (pos 2147483647))) (constant (at 51 0) integer (pos 1)))) ∷
       [];
 }
 
@@ -149,7 +149,7 @@ signed_index = record {
   modules = 0 ∷ [];
   variables = signed_index_a ∷ [];
   bodies = (assign (at 57 0) char (element (at 57 0) (whole (own
-      signed_index_a)) (writing 0 0) (negsuc 1) (negsuc 0) (simple char) (unary (at 59 0) minus-sign (constant (at 60 0) integer (pos 2))))
+      signed_index_a)) (writing 0 0) (negsuc 1) (negsuc 0) (simple char) (unary (at 59 0) minus_sign (constant (at 60 0) integer (pos 2))))
       (constant (at 66 0) char (pos 1))) ∷ [];
 }
 

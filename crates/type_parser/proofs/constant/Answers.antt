@@ -2,37 +2,37 @@ use Rattle.std.proofs.Common.{◌≡◌, true, Some, None, sym, refl, ap, ◌∙
 use Rattle.fault.specs.declared.Cause.TheVariants.{Syntax}
 use Rattle.symbol.specs.Symbols.{sym_of}
 use Rattle.cursor.proofs.Steps.{at_first, followed, follow, onward, broke, refused, too_deep}
-use Rattle.expression_parser.specs.Classes.{Start, a_number, aCharacter, aName, start}
+use Rattle.expression_parser.specs.Classes.{Start, a_number, a_character, a_name, start}
 use Rattle.type_parser.specs.Readers.{constant_at}
 use Rattle.type_parser.proofs.Moves.{constant_fault, constant_signed, constant_none, constant_number, constant_name_lem, constant_character_lem}
 use Rattle.type_parser.proofs.constant.Goals as goal
 
-pub returns-in-err-number : goal.returns-in-err-number
-returns-in-err-number c = broke _ c.from-residual.ensures.1 c.in-err-number.ensures (constant_signed _ _ _ _ c.read-sign-sign.ensures.0 c.in-Some.is c.read-sign-sign.ensures.1)
+pub returns-in_err-number : goal.returns-in_err-number
+returns-in_err-number c = broke _ c.from-residual.ensures.1 c.in_err-number.ensures (constant_signed _ _ _ _ c.read_sign-sign.ensures.0 c.in-Some.is c.read_sign-sign.ensures.1)
 
 pub returns-in-Some : goal.returns-in-Some
-returns-in-Some c = follow (onward _ (constant_signed _ _ _ _ c.read-sign-sign.ensures.0 c.in-Some.is c.read-sign-sign.ensures.1) (followed c.in-ok-number.ensures))
+returns-in-Some c = follow (onward _ (constant_signed _ _ _ _ c.read_sign-sign.ensures.0 c.in-Some.is c.read_sign-sign.ensures.1) (followed c.in_ok-number.ensures))
 
 pub returns-in-Number : goal.returns-in-Number
 returns-in-Number c =
-    let n : c.read-sign-sign.result ≡ None = search rules in
-    follow (constant_number _ _ _ _ _ _ c.read-sign-sign.ensures.0 n c.read-sign-sign.ensures.1 (at_first start _ _ c.first-first.ensures (ap (λ s. start (sym_of s)) c.in-Number.is))
+    let n : c.read_sign-sign.result ≡ None = search rules in
+    follow (constant_number _ _ _ _ _ _ c.read_sign-sign.ensures.0 n c.read_sign-sign.ensures.1 (at_first start _ _ c.first-first.ensures (ap (λ s. start (sym_of s)) c.in-Number.is))
     (ap (λ s. s.place) c.first-first.ensures) c.advance.ensures)
 
 pub returns-in-Name : goal.returns-in-Name
 returns-in-Name c =
-    let n : c.read-sign-sign.result ≡ None = search rules in
-    follow (constant_name_lem _ _ _ _ _ _ c.read-sign-sign.ensures.0 n c.read-sign-sign.ensures.1 (at_first start _ _ c.first-first.ensures (ap (λ s. start (sym_of s)) c.in-Name.is))
+    let n : c.read_sign-sign.result ≡ None = search rules in
+    follow (constant_name_lem _ _ _ _ _ _ c.read_sign-sign.ensures.0 n c.read_sign-sign.ensures.1 (at_first start _ _ c.first-first.ensures (ap (λ s. start (sym_of s)) c.in-Name.is))
     (ap (λ s. s.place) c.first-first.ensures) c.advance-in-Name.ensures)
 
 pub returns-in-Character : goal.returns-in-Character
 returns-in-Character c =
-    let n : c.read-sign-sign.result ≡ None = search rules in
-    follow (constant_character_lem _ _ _ _ _ _ c.read-sign-sign.ensures.0 n c.read-sign-sign.ensures.1 (at_first start _ _ c.first-first.ensures (ap (λ s. start (sym_of s)) c.in-Character.is))
+    let n : c.read_sign-sign.result ≡ None = search rules in
+    follow (constant_character_lem _ _ _ _ _ _ c.read_sign-sign.ensures.0 n c.read_sign-sign.ensures.1 (at_first start _ _ c.first-first.ensures (ap (λ s. start (sym_of s)) c.in-Character.is))
     (ap (λ s. s.place) c.first-first.ensures) c.advance-in-Character.ensures)
 
-pub returns-in-default-symbol : goal.returns-in-default-symbol
-returns-in-default-symbol c =
-    let n : c.read-sign-sign.result ≡ None = search rules in
+pub returns-in_default-symbol : goal.returns-in_default-symbol
+returns-in_default-symbol c =
+    let n : c.read_sign-sign.result ≡ None = search rules in
     let f : constant_fault (start (sym_of c.first-first.result.symbol)) ≡ true = search rules in
-    refused _ Syntax _ c.halt.ensures (constant_none _ _ _ c.read-sign-sign.ensures.0 n c.read-sign-sign.ensures.1 (at_first (λ y. constant_fault (start y)) _ _ c.first-first.ensures f))
+    refused _ Syntax _ c.halt.ensures (constant_none _ _ _ c.read_sign-sign.ensures.0 n c.read_sign-sign.ensures.1 (at_first (λ y. constant_fault (start y)) _ _ c.first-first.ensures f))

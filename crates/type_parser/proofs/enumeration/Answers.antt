@@ -5,14 +5,14 @@ use Rattle.cursor.proofs.Steps.{at_first, followed, follow, onward, broke, refus
 use Rattle.type_parser.proofs.Moves.{enumeration_deep, enumeration_is}
 use Rattle.type_parser.proofs.enumeration.Goals as goal
 
-pub returns-in-err-deeper : goal.returns-in-err-deeper
-returns-in-err-deeper c = too_deep _ _ _ _ c.from-residual.ensures.1 c.in-err-deeper.ensures (enumeration_deep _ _)
+pub returns-in_err-deeper : goal.returns-in_err-deeper
+returns-in_err-deeper c = too_deep _ _ _ _ c.from-residual.ensures.1 c.in_err-deeper.ensures (enumeration_deep _ _)
 
-pub returns-in-err-names : goal.returns-in-err-names
-returns-in-err-names c = broke _ c.from-residual-in-err-names.ensures.1 c.in-err-names.ensures (enumeration_is _ _ _ _ _ (ap (λ s. s.place) c.first-place.ensures) c.in-ok-deeper.ensures.0 c.in-ok-deeper.ensures.1)
+pub returns-in_err-names : goal.returns-in_err-names
+returns-in_err-names c = broke _ c.from-residual-in_err-names.ensures.1 c.in_err-names.ensures (enumeration_is _ _ _ _ _ (ap (λ s. s.place) c.first-place.ensures) c.in_ok-deeper.ensures.0 c.in_ok-deeper.ensures.1)
 
-pub returns-in-err-mark : goal.returns-in-err-mark
-returns-in-err-mark c = broke _ c.from-residual-in-err-mark.ensures.1 c.in-err-mark.ensures (onward _ (enumeration_is _ _ _ _ _ (ap (λ s. s.place) c.first-place.ensures) c.in-ok-deeper.ensures.0 c.in-ok-deeper.ensures.1) (followed c.in-ok-names.ensures))
+pub returns-in_err-mark : goal.returns-in_err-mark
+returns-in_err-mark c = broke _ c.from-residual-in_err-mark.ensures.1 c.in_err-mark.ensures (onward _ (enumeration_is _ _ _ _ _ (ap (λ s. s.place) c.first-place.ensures) c.in_ok-deeper.ensures.0 c.in_ok-deeper.ensures.1) (followed c.in_ok-names.ensures))
 
 pub returns : goal.returns
-returns c = follow (onward _ (onward _ (enumeration_is _ _ _ _ _ (ap (λ s. s.place) c.first-place.ensures) c.in-ok-deeper.ensures.0 c.in-ok-deeper.ensures.1) (followed c.in-ok-names.ensures)) (followed c.in-ok-mark.ensures))
+returns c = follow (onward _ (onward _ (enumeration_is _ _ _ _ _ (ap (λ s. s.place) c.first-place.ensures) c.in_ok-deeper.ensures.0 c.in_ok-deeper.ensures.1) (followed c.in_ok-names.ensures)) (followed c.in_ok-mark.ensures))

@@ -3,9 +3,9 @@ use Rattle.cursor.specs.Promises.{unread}
 use Rattle.cursor.proofs.Slices.{tail_none, tail_some}
 use Rattle.cursor.proofs.Cursor.advance.Goals as goal
 
-pub returns-in-default : goal.returns-in-default
+pub returns-in_default : goal.returns-in_default
 unfolding unread
-returns-in-default c = tail_none c.args.self.now.rest.now (omega (arith, ltb-true, ltb-false))
+returns-in_default c = tail_none c.args.self.now.rest.now (omega (arith, ltb-true, ltb-false))
 
 pub returns-in-len1-up : goal.returns-in-len1-up
 unfolding unread

@@ -9,6 +9,6 @@ pub returns-in-empty : goal.returns-in-empty
 unfolding unread
 returns-in-empty c = follow (end_none c.args.self.now.rest.now (omega (arith, ltb-true, ltb-false)))
 
-pub returns-in-default : goal.returns-in-default
+pub returns-in_default : goal.returns-in_default
 unfolding unread
-returns-in-default c = refused _ Syntax _ c.halt.ensures (end_some c.args.self.now.rest.now (omega (arith, ltb-true, ltb-false)))
+returns-in_default c = refused _ Syntax _ c.halt.ensures (end_some c.args.self.now.rest.now (omega (arith, ltb-true, ltb-false)))

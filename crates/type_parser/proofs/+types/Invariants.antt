@@ -4,7 +4,7 @@ use Rattle.cursor.specs.Promises.{unread}
 use Rattle.cursor.specs.Reading.{mapped, turned, further_of}
 use Rattle.type_tree.specs.Trees.{secs_of}
 use Rattle.type_parser.specs.Readers.{section_of, type_expr_of}
-use Rattle.type_parser.proofs.+array_record_section_type_expr.Given as goal
+use Rattle.type_parser.proofs.+types.Given as goal
 
 -- every cycle opens a construct, which takes one from the allowance; the rank tells who calls whom at the same allowance
 

@@ -1,6 +1,6 @@
 use Rattle.std.proofs.Common.{◌≤◌}
 use Rattle.type_tree.proofs.Sizes as size
-use Rattle.type_tree.proofs.+drop_drop.Given as goal
+use Rattle.type_tree.proofs.+drops.Given as goal
 
 abbrev pub decreases-TypeExpr::drop : goal.decreases-TypeExpr::drop
 decreases-TypeExpr::drop l = size.typeexpr l.self

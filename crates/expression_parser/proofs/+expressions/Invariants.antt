@@ -4,7 +4,7 @@ use Rattle.cursor.specs.Promises.{unread}
 use Rattle.cursor.specs.Reading.{inner, mapped, turned, further_of}
 use Rattle.expression_tree.specs.Trees.{adds_of, muls_of, sels_of, exprs_of}
 use Rattle.expression_parser.specs.Readers.{addends_of, multipliers_of, selectors_of, expression_of, factor}
-use Rattle.expression_parser.proofs.+enclosed_expression_factor_named_selectors_simple_term.Given as goal
+use Rattle.expression_parser.proofs.+expressions.Given as goal
 
 -- every cycle opens a construct, which takes one from the allowance; the rank tells who calls whom at the same allowance
 

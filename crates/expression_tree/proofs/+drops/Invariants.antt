@@ -1,6 +1,6 @@
 use Rattle.std.proofs.Common.{◌≤◌}
 use Rattle.expression_tree.proofs.Sizes as size
-use Rattle.expression_tree.proofs.+drop_drop_drop_drop_drop_drop_drop_drop.Given as goal
+use Rattle.expression_tree.proofs.+drops.Given as goal
 
 abbrev pub decreases-Expression::drop : goal.decreases-Expression::drop
 decreases-Expression::drop l = size.expression l.self

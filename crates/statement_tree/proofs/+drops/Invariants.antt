@@ -1,6 +1,6 @@
 use Rattle.std.proofs.Common.{◌≤◌}
 use Rattle.statement_tree.proofs.Sizes as size
-use Rattle.statement_tree.proofs.+drop_drop_drop_drop_drop.Given as goal
+use Rattle.statement_tree.proofs.+drops.Given as goal
 
 abbrev pub decreases-Statement::drop : goal.decreases-Statement::drop
 decreases-Statement::drop l = size.statement l.self

@@ -4,7 +4,7 @@ use Rattle.cursor.specs.Promises.{unread}
 use Rattle.cursor.specs.Reading.{mapped, turned, further_of}
 use Rattle.statement_tree.specs.Trees as tree
 use Rattle.syntax.specs.Statements.{statement, level, elsifs_of, exits_of}
-use Rattle.statement_parser.proofs.+block_elsif_exit_if_statement_loop_statement_optional_repeat_statement_statement_while_statement.Given as goal
+use Rattle.statement_parser.proofs.+statements.Given as goal
 
 -- every cycle opens a construct, which takes one from the allowance; the rank tells who calls whom at the same allowance
 
@@ -45,18 +45,18 @@ invariant-block-loop-cursor l =
 abbrev pub decreases-block-loop-cursor : goal.decreases-block-loop-cursor
 decreases-block-loop-cursor l = length (unread l.cursor)
 
-abbrev pub invariant-if-statement-loop-cursor : goal.invariant-if-statement-loop-cursor
-invariant-if-statement-loop-cursor l =
+abbrev pub invariant-if_statement-loop-cursor : goal.invariant-if_statement-loop-cursor
+invariant-if_statement-loop-cursor l =
     mapped (turned (tree.elsifs_of (box_value l.elsifs))) (elsifs_of (level l.deeper) (unread l.cursor))
     ≡ mapped (turned (tree.elsifs_of (box_value l.initial.elsifs))) (elsifs_of (level l.deeper) (unread l.initial.cursor))
 
-abbrev pub decreases-if-statement-loop-cursor : goal.decreases-if-statement-loop-cursor
-decreases-if-statement-loop-cursor l = length (unread l.cursor)
+abbrev pub decreases-if_statement-loop-cursor : goal.decreases-if_statement-loop-cursor
+decreases-if_statement-loop-cursor l = length (unread l.cursor)
 
-abbrev pub invariant-loop-statement-loop-cursor : goal.invariant-loop-statement-loop-cursor
-invariant-loop-statement-loop-cursor l =
+abbrev pub invariant-loop_statement-loop-cursor : goal.invariant-loop_statement-loop-cursor
+invariant-loop_statement-loop-cursor l =
     mapped (turned (tree.exits_of (box_value l.exits))) (exits_of (level l.deeper) (unread l.cursor))
     ≡ mapped (turned (tree.exits_of (box_value l.initial.exits))) (exits_of (level l.deeper) (unread l.initial.cursor))
 
-abbrev pub decreases-loop-statement-loop-cursor : goal.decreases-loop-statement-loop-cursor
-decreases-loop-statement-loop-cursor l = length (unread l.cursor)
+abbrev pub decreases-loop_statement-loop-cursor : goal.decreases-loop_statement-loop-cursor
+decreases-loop_statement-loop-cursor l = length (unread l.cursor)

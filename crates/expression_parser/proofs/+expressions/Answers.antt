@@ -1,0 +1,226 @@
+use Rattle.std.proofs.Common.{◌≡◌, true, false, [], ◌∷◌, Some, None, sym, refl, ap, ◌∙◌, rules}
+use Rattle.fault.specs.declared.Cause.TheVariants.{Syntax}
+use Rattle.symbol.specs.Symbols.{sym_of}
+use Rattle.symbol.specs.declared.mark.Mark.TheVariants.{Comma}
+use Rattle.cursor.specs.Reading.{inner}
+use Rattle.cursor.proofs.Loops.{rejoin, mapped_id, within_list, further_turn, further_less, further_turned, further_stop}
+use Rattle.cursor.proofs.Steps.{at_first, followed, follow, goes, onward, broke, made, refused, too_deep, list_turned, list_is}
+use Rattle.expression_tree.specs.Trees.{adds_of, muls_of, sels_of}
+use Rattle.expression_tree.specs.Trees as tree
+use Rattle.expression_parser.specs.Classes.{relation, adding, multiplying, start, an_opening, a_not, other}
+use Rattle.expression_parser.specs.Readers.{expression_of, factor}
+use Rattle.expression_parser.proofs.Within.{expression_within, factor_within}
+use Rattle.expression_parser.proofs.Moves.{expression_is, expression_plain, expression_related, simple_is, simple_begins, term_is, term_begins, addend_stop, addend_turn, addend_less, addend_again, multiplier_stop, multiplier_turn, multiplier_less, multiplier_again, factor_number, factor_character, factor_name, factor_paren, factor_not, paren_deep, not_deep, factor_other, named_call, named_variable, selector_stop, field_turn, field_again, field_less, index_turn, index_again, index_less, enclosed_deep, enclosed_is}
+use Rattle.expression_parser.proofs.+expressions.Goals as goal
+
+-- ---- expression
+
+pub expression-returns-in_err-left : goal.expression-returns-in_err-left
+expression-returns-in_err-left t c =
+    broke _ c.from_residual.ensures.1 c.in_err-left.ensures (expression_is _ _)
+
+pub expression-returns-in_err-right : goal.expression-returns-in_err-right
+expression-returns-in_err-right t c =
+    broke _ c.from-residual-in_err-right.ensures.1 c.in_err-right.ensures
+    (expression_related _ _ _ _ _ _ (followed c.in_ok-left.ensures) (at_first relation _ _ c.first.ensures (sym c.in-Some.ensures)) c.advance.ensures)
+
+pub expression-returns-in_ok-of-plain : goal.expression-returns-in_ok-of-plain
+expression-returns-in_ok-of-plain t c =
+    made (expression_plain _ _ _ _ (followed c.in_ok-left.ensures) (at_first relation _ _ c.first.ensures (sym c.in-None.ensures))) c.in_ok-of-plain.ensures
+
+pub expression-returns-in_ok-of-related : goal.expression-returns-in_ok-of-related
+expression-returns-in_ok-of-related t c =
+    made (onward _ (expression_related _ _ _ _ _ _ (followed c.in_ok-left.ensures) (at_first relation _ _ c.first.ensures (sym c.in-Some.ensures)) c.advance.ensures) (followed c.in_ok-right.ensures))
+    c.in_ok-of-related.ensures
+
+-- ---- simple
+
+pub simple-returns-in_err-first : goal.simple-returns-in_err-first
+simple-returns-in_err-first t c =
+    broke _ c.from_residual.ensures.1 c.in_err-first.ensures (simple_is _ _ _ _ _ c.read_sign-sign.ensures.0 c.read_sign-sign.ensures.1 (ap (λ s. s.place) c.first-place.ensures))
+
+pub simple-returns-in_err-next : goal.simple-returns-in_err-next
+simple-returns-in_err-next t c =
+    broke _ c.from_residual-in_err-next.ensures.1 c.in_err-next.ensures
+    (rejoin _ (adds_of c.loop-adding.addends) _ _ (simple_begins _ _ _ _ _ _ _ c.read_sign-sign.ensures.0 c.read_sign-sign.ensures.1 (ap (λ s. s.place) c.first-place.ensures) (followed c.in_ok-first.ensures)) c.loop-adding.invariant
+    ∙ addend_turn c.args.allowance _ _ _ _ (at_first adding _ _ c.first.ensures (sym c.in-Some.ensures)) c.advance.ensures)
+
+pub simple-loop-adding-smaller : goal.simple-loop-adding-smaller
+simple-loop-adding-smaller t c =
+    addend_less c.args.allowance _ _ _ _ _ (at_first adding _ _ c.first.ensures (sym c.in-Some.ensures)) c.advance.ensures (followed c.in_ok-next.ensures)
+
+pub simple-loop-adding-preserved : goal.simple-loop-adding-preserved
+simple-loop-adding-preserved t c =
+    addend_again c.args.allowance _ _ _ _ _ _ _ (at_first adding _ _ c.first.ensures (sym c.in-Some.ensures)) c.advance.ensures (followed c.in_ok-next.ensures)
+    c.in_ok-addends.ensures c.loop-adding.invariant
+
+pub simple-returns : goal.simple-returns
+simple-returns t c =
+    let n : adding (sym_of c.first.result.symbol) ≡ None = search rules in
+    made (rejoin _ (adds_of c.loop-adding.addends) _ _ (simple_begins _ _ _ _ _ _ _ c.read_sign-sign.ensures.0 c.read_sign-sign.ensures.1 (ap (λ s. s.place) c.first-place.ensures) (followed c.in_ok-first.ensures)) c.loop-adding.invariant ∙ addend_stop c.args.allowance _ _ (at_first adding _ _ c.first.ensures n))
+    (c.in_ok-of_sum.ensures ∙ ap (λ l. tree.sum c.first-place.result.place c.read_sign-sign.result (tree.ter_of c.in_ok-first.first) (tree.adds l)) c.in_ok-addends-2.ensures)
+
+-- ---- term
+
+pub term-returns-in_err-first : goal.term-returns-in_err-first
+term-returns-in_err-first t c =
+    broke _ c.from_residual.ensures.1 c.in_err-first.ensures (term_is _ _)
+
+pub term-returns-in_err-next : goal.term-returns-in_err-next
+term-returns-in_err-next t c =
+    broke _ c.from_residual-in_err-next.ensures.1 c.in_err-next.ensures
+    (rejoin _ (muls_of c.loop-multiplying.multipliers) _ _ (term_begins _ _ _ _ (followed c.in_ok-first.ensures)) c.loop-multiplying.invariant
+    ∙ multiplier_turn c.args.allowance _ _ _ _ (at_first multiplying _ _ c.first.ensures (sym c.in-Some.ensures)) c.advance.ensures)
+
+pub term-loop-multiplying-smaller : goal.term-loop-multiplying-smaller
+term-loop-multiplying-smaller t c =
+    multiplier_less c.args.allowance _ _ _ _ _ (at_first multiplying _ _ c.first.ensures (sym c.in-Some.ensures)) c.advance.ensures (followed c.in_ok-next.ensures)
+
+pub term-loop-multiplying-preserved : goal.term-loop-multiplying-preserved
+term-loop-multiplying-preserved t c =
+    multiplier_again c.args.allowance _ _ _ _ _ _ _ (at_first multiplying _ _ c.first.ensures (sym c.in-Some.ensures)) c.advance.ensures (followed c.in_ok-next.ensures)
+    c.in_ok-multipliers.ensures c.loop-multiplying.invariant
+
+pub term-returns : goal.term-returns
+term-returns t c =
+    let n : multiplying (sym_of c.first.result.symbol) ≡ None = search rules in
+    made (rejoin _ (muls_of c.loop-multiplying.multipliers) _ _ (term_begins _ _ _ _ (followed c.in_ok-first.ensures)) c.loop-multiplying.invariant ∙ multiplier_stop c.args.allowance _ _ (at_first multiplying _ _ c.first.ensures n))
+    (c.in_ok-of_product.ensures ∙ ap (λ l. tree.product (tree.fac_of c.in_ok-first.first) (tree.muls l)) c.in_ok-multipliers-2.ensures)
+
+-- ---- factor
+
+pub factor-returns-in-Number : goal.factor-returns-in-Number
+factor-returns-in-Number t c =
+    follow (factor_number _ _ _ _ _ (at_first start _ _ c.first-first.ensures (ap (λ s. start (sym_of s)) c.in-Number.is)) (ap (λ s. s.place) c.first-first.ensures) c.advance.ensures)
+
+pub factor-returns-in-Character : goal.factor-returns-in-Character
+factor-returns-in-Character t c =
+    follow (factor_character _ _ _ _ _ (at_first start _ _ c.first-first.ensures (ap (λ s. start (sym_of s)) c.in-Character.is)) (ap (λ s. s.place) c.first-first.ensures) c.advance-in-Character.ensures)
+
+pub factor-returns-in-Name : goal.factor-returns-in-Name
+factor-returns-in-Name t c =
+    goes c.named.ensures (factor_name _ _ _ _ _ (at_first start _ _ c.first-first.ensures (ap (λ s. start (sym_of s)) c.in-Name.is)) (ap (λ s. s.place) c.first-first.ensures) c.advance-in-Name.ensures)
+
+pub factor-returns-in_err-deeper : goal.factor-returns-in_err-deeper
+factor-returns-in_err-deeper t c =
+    let k : start (sym_of c.first-first.result.symbol) ≡ an_opening = search rules in
+    too_deep _ _ _ _ c.from_residual.ensures.1 c.in_err-deeper.ensures (paren_deep _ _ (at_first start _ _ c.first-first.ensures k))
+
+pub factor-returns-in_err-inner : goal.factor-returns-in_err-inner
+factor-returns-in_err-inner t c =
+    let k : start (sym_of c.first-first.result.symbol) ≡ an_opening = search rules in
+    broke _ c.from-residual-in_err-inner.ensures.1 c.in_err-inner.ensures (factor_paren _ _ _ _ _ (at_first start _ _ c.first-first.ensures k) (ap (λ s. s.place) c.first-first.ensures) c.in_ok-deeper.ensures.0 c.in_ok-deeper.ensures.1)
+
+pub factor-returns-in_err-mark : goal.factor-returns-in_err-mark
+factor-returns-in_err-mark t c =
+    let k : start (sym_of c.first-first.result.symbol) ≡ an_opening = search rules in
+    broke _ c.from_residual-in_err-mark.ensures.1 c.in_err-mark.ensures (onward _ (factor_paren _ _ _ _ _ (at_first start _ _ c.first-first.ensures k) (ap (λ s. s.place) c.first-first.ensures) c.in_ok-deeper.ensures.0 c.in_ok-deeper.ensures.1) (followed c.in_ok-inner.ensures))
+
+pub factor-returns-in_ok-of-paren : goal.factor-returns-in_ok-of-paren
+factor-returns-in_ok-of-paren t c =
+    let k : start (sym_of c.first-first.result.symbol) ≡ an_opening = search rules in
+    made (onward _ (onward _ (factor_paren _ _ _ _ _ (at_first start _ _ c.first-first.ensures k) (ap (λ s. s.place) c.first-first.ensures) c.in_ok-deeper.ensures.0 c.in_ok-deeper.ensures.1) (followed c.in_ok-inner.ensures)) (followed c.in_ok-mark.ensures)) c.in_ok-of-paren.ensures
+
+pub factor-returns-in_err-deeper-2 : goal.factor-returns-in_err-deeper-2
+factor-returns-in_err-deeper-2 t c =
+    let k : start (sym_of c.first-first.result.symbol) ≡ a_not = search rules in
+    too_deep _ _ _ _ c.from-residual-in_err-deeper-2.ensures.1 c.in_err-deeper-2.ensures (not_deep _ _ (at_first start _ _ c.first-first.ensures k))
+
+pub factor-returns-in_err-inner-2 : goal.factor-returns-in_err-inner-2
+factor-returns-in_err-inner-2 t c =
+    let k : start (sym_of c.first-first.result.symbol) ≡ a_not = search rules in
+    broke _ c.from-residual-in_err-inner-2.ensures.1 c.in_err-inner-2.ensures (factor_not _ _ _ _ _ (at_first start _ _ c.first-first.ensures k) (ap (λ s. s.place) c.first-first.ensures) c.in_ok-deeper-2.ensures.0 c.in_ok-deeper-2.ensures.1)
+
+pub factor-returns-in_ok-of-not : goal.factor-returns-in_ok-of-not
+factor-returns-in_ok-of-not t c =
+    let k : start (sym_of c.first-first.result.symbol) ≡ a_not = search rules in
+    made (onward _ (factor_not _ _ _ _ _ (at_first start _ _ c.first-first.ensures k) (ap (λ s. s.place) c.first-first.ensures) c.in_ok-deeper-2.ensures.0 c.in_ok-deeper-2.ensures.1) (followed c.in_ok-inner-2.ensures)) c.in_ok-of-not.ensures
+
+pub factor-returns-in_default : goal.factor-returns-in_default
+factor-returns-in_default t c =
+    let o : start (sym_of c.first-first.result.symbol) ≡ other = search rules in
+    refused _ Syntax _ c.halt.ensures (factor_other _ _ (at_first start _ _ c.first-first.ensures o))
+
+-- ---- named
+
+pub named-returns-in_err-actuals : goal.named-returns-in_err-actuals
+named-returns-in_err-actuals t c =
+    broke _ c.from_residual.ensures.1 c.in_err-actuals.ensures (named_call _ _ _ (sym c.if-at_mark.ensures))
+
+pub named-returns-then-at_mark : goal.named-returns-then-at_mark
+named-returns-then-at_mark t c =
+    made (onward _ (named_call _ _ _ (sym c.if-at_mark.ensures)) (followed c.in_ok-actuals.ensures)) c.in_ok-of_call.ensures
+
+pub named-returns-in_err-selectors : goal.named-returns-in_err-selectors
+named-returns-in_err-selectors t c =
+    broke _ c.from_residual-in_err-selectors.ensures.1 c.in_err-selectors.ensures (named_variable _ _ _ (sym c.if-at_mark.ensures))
+
+pub named-returns : goal.named-returns
+named-returns t c =
+    made (onward _ (named_variable _ _ _ (sym c.if-at_mark.ensures)) (followed c.in_ok-selectors.ensures)) c.in_ok-of_variable.ensures
+
+-- ---- selectors
+
+pub selectors-returns-in_err-field : goal.selectors-returns-in_err-field
+selectors-returns-in_err-field t c =
+    broke _ c.from_residual.ensures.1 c.in_err-field.ensures ((rejoin (λ xs. xs) (sels_of c.loop-cursor.selectors) _ _ (sym (mapped_id _)) c.loop-cursor.invariant) ∙ field_turn c.args.allowance _ _ _ (sym c.if-at_mark.ensures) c.advance.ensures)
+
+pub selectors-loop-cursor-smaller-then-at_mark : goal.selectors-loop-cursor-smaller-then-at_mark
+selectors-loop-cursor-smaller-then-at_mark t c =
+    field_less c.args.allowance _ _ _ _ (sym c.if-at_mark.ensures) c.advance.ensures (followed c.in_ok-field.ensures)
+
+pub selectors-loop-cursor-preserved-then-at_mark : goal.selectors-loop-cursor-preserved-then-at_mark
+selectors-loop-cursor-preserved-then-at_mark t c =
+    field_again c.args.allowance _ _ _ _ _ _ (sym c.if-at_mark.ensures) c.advance.ensures (followed c.in_ok-field.ensures)
+    c.in_ok-selectors.ensures c.loop-cursor.invariant
+
+pub selectors-returns-in_err-indices : goal.selectors-returns-in_err-indices
+selectors-returns-in_err-indices t c =
+    broke _ c.from_residual-in_err-indices.ensures.1 c.in_err-indices.ensures ((rejoin (λ xs. xs) (sels_of c.loop-cursor.selectors) _ _ (sym (mapped_id _)) c.loop-cursor.invariant) ∙ index_turn c.args.allowance _ _ (sym c.if-at_mark.ensures) (sym c.if-at_mark-2.ensures))
+
+pub selectors-loop-cursor-smaller : goal.selectors-loop-cursor-smaller
+selectors-loop-cursor-smaller t c =
+    index_less c.args.allowance _ _ _ (sym c.if-at_mark.ensures) (sym c.if-at_mark-2.ensures) (followed c.in_ok-indices.ensures)
+
+pub selectors-loop-cursor-preserved : goal.selectors-loop-cursor-preserved
+selectors-loop-cursor-preserved t c =
+    index_again c.args.allowance _ _ _ _ _ (sym c.if-at_mark.ensures) (sym c.if-at_mark-2.ensures) (followed c.in_ok-indices.ensures)
+    c.in_ok-selectors-2.ensures c.loop-cursor.invariant
+
+pub selectors-returns-else-at_mark-2 : goal.selectors-returns-else-at_mark-2
+selectors-returns-else-at_mark-2 t c =
+    made ((rejoin (λ xs. xs) (sels_of c.loop-cursor.selectors) _ _ (sym (mapped_id _)) c.loop-cursor.invariant) ∙ selector_stop c.args.allowance _ _ (sym c.if-at_mark.ensures) (sym c.if-at_mark-2.ensures)) c.in_ok-reversed.ensures
+
+-- ---- enclosed
+
+pub enclosed-returns-in_err-deeper : goal.enclosed-returns-in_err-deeper
+enclosed-returns-in_err-deeper t c =
+    too_deep _ _ _ _ c.from_residual.ensures.1 c.in_err-deeper.ensures (enclosed_deep _ _ _)
+
+pub enclosed-returns-in_err-first : goal.enclosed-returns-in_err-first
+enclosed-returns-in_err-first t c =
+    broke _ c.from_residual-in_err-first.ensures.1 c.in_err-first.ensures
+    (enclosed_is _ _ _ _ _ c.in_ok-deeper.ensures.0 c.in_ok-deeper.ensures.1 ∙ within_list _ _ _ _ _ _ _ (list_is Comma _ _))
+
+pub enclosed-returns-in_err-next : goal.enclosed-returns-in_err-next
+enclosed-returns-in_err-next t c =
+    broke _ c.from_residual-in_err-next.ensures.1 c.in_err-next.ensures
+    (enclosed_is _ _ _ _ _ c.in_ok-deeper.ensures.0 c.in_ok-deeper.ensures.1 ∙ within_list _ _ _ _ _ _ _ ((list_turned Comma _ _ _ _ _ (followed c.in_ok-first.ensures) c.in_ok-list.ensures) ∙ sym c.loop-cursor.invariant ∙ further_turn Comma _ (expression_within _ (factor_within _)) _ _ _ (sym c.loop-cursor-test.ensures) c.advance.ensures))
+
+pub enclosed-loop-cursor-smaller : goal.enclosed-loop-cursor-smaller
+enclosed-loop-cursor-smaller t c =
+    further_less Comma _ (expression_within _ (factor_within _)) _ _ _ _ (sym c.loop-cursor-test.ensures) c.advance.ensures (followed c.in_ok-next.ensures)
+
+pub enclosed-loop-cursor-preserved : goal.enclosed-loop-cursor-preserved
+enclosed-loop-cursor-preserved t c =
+    further_turned Comma _ (expression_within _ (factor_within _)) _ _ _ _ _ _ (sym c.loop-cursor-test.ensures) c.advance.ensures (followed c.in_ok-next.ensures)
+    c.in_ok-list-2.ensures c.loop-cursor.invariant
+
+pub enclosed-returns-in_err-mark : goal.enclosed-returns-in_err-mark
+enclosed-returns-in_err-mark t c =
+    broke _ c.from_residual-in_err-mark.ensures.1 c.in_err-mark.ensures
+    (onward _ (enclosed_is _ _ _ _ _ c.in_ok-deeper.ensures.0 c.in_ok-deeper.ensures.1) ((list_turned Comma _ _ _ _ _ (followed c.in_ok-first.ensures) c.in_ok-list.ensures) ∙ sym c.loop-cursor.invariant ∙ further_stop Comma _ (expression_within _ (factor_within _)) _ _ (sym c.loop-cursor-test.ensures)))
+
+pub enclosed-returns : goal.enclosed-returns
+enclosed-returns t c =
+    made (onward _ (onward _ (enclosed_is _ _ _ _ _ c.in_ok-deeper.ensures.0 c.in_ok-deeper.ensures.1) ((list_turned Comma _ _ _ _ _ (followed c.in_ok-first.ensures) c.in_ok-list.ensures) ∙ sym c.loop-cursor.invariant ∙ further_stop Comma _ (expression_within _ (factor_within _)) _ _ (sym c.loop-cursor-test.ensures))) (followed c.in_ok-mark.ensures)) c.in_ok-reversed.ensures
