@@ -19,19 +19,19 @@ pub expression-returns-in_err-left : goal.expression-returns-in_err-left
 expression-returns-in_err-left t c =
     broke _ c.from_residual.ensures.1 c.in_err-left.ensures (expression_is _ _)
 
-pub expression-returns-in_err-right : goal.expression-returns-in_err-right
-expression-returns-in_err-right t c =
-    broke _ c.from-residual-in_err-right.ensures.1 c.in_err-right.ensures
+pub expression-returns-in_err-right-in-Some : goal.expression-returns-in_err-right-in-Some
+expression-returns-in_err-right-in-Some t c =
+    broke _ c.from_residual-in_err-right-in-Some.ensures.1 c.in_err-right-in-Some.ensures
     (expression_related _ _ _ _ _ _ (followed c.in_ok-left.ensures) (at_first relation _ _ c.first.ensures (sym c.in-Some.ensures)) c.advance.ensures)
 
-pub expression-returns-in_ok-of-plain : goal.expression-returns-in_ok-of-plain
-expression-returns-in_ok-of-plain t c =
-    made (expression_plain _ _ _ _ (followed c.in_ok-left.ensures) (at_first relation _ _ c.first.ensures (sym c.in-None.ensures))) c.in_ok-of-plain.ensures
+pub expression-returns-in_ok-of_plain-in-None : goal.expression-returns-in_ok-of_plain-in-None
+expression-returns-in_ok-of_plain-in-None t c =
+    made (expression_plain _ _ _ _ (followed c.in_ok-left.ensures) (at_first relation _ _ c.first.ensures (sym c.in-None.ensures))) c.in_ok-of_plain-in-None.ensures
 
-pub expression-returns-in_ok-of-related : goal.expression-returns-in_ok-of-related
-expression-returns-in_ok-of-related t c =
-    made (onward _ (expression_related _ _ _ _ _ _ (followed c.in_ok-left.ensures) (at_first relation _ _ c.first.ensures (sym c.in-Some.ensures)) c.advance.ensures) (followed c.in_ok-right.ensures))
-    c.in_ok-of-related.ensures
+pub expression-returns-in_ok-of_related-in-Some : goal.expression-returns-in_ok-of_related-in-Some
+expression-returns-in_ok-of_related-in-Some t c =
+    made (onward _ (expression_related _ _ _ _ _ _ (followed c.in_ok-left.ensures) (at_first relation _ _ c.first.ensures (sym c.in-Some.ensures)) c.advance.ensures) (followed c.in_ok-right-in-Some.ensures))
+    c.in_ok-of_related-in-Some.ensures
 
 -- ---- simple
 
@@ -101,40 +101,40 @@ pub factor-returns-in-Name : goal.factor-returns-in-Name
 factor-returns-in-Name t c =
     goes c.named.ensures (factor_name _ _ _ _ _ (at_first start _ _ c.first-first.ensures (ap (λ s. start (sym_of s)) c.in-Name.is)) (ap (λ s. s.place) c.first-first.ensures) c.advance-in-Name.ensures)
 
-pub factor-returns-in_err-deeper : goal.factor-returns-in_err-deeper
-factor-returns-in_err-deeper t c =
+pub factor-returns-in_err-deeper-in-Mark-LeftParen : goal.factor-returns-in_err-deeper-in-Mark-LeftParen
+factor-returns-in_err-deeper-in-Mark-LeftParen t c =
     let k : start (sym_of c.first-first.result.symbol) ≡ an_opening = search rules in
-    too_deep _ _ _ _ c.from_residual.ensures.1 c.in_err-deeper.ensures (paren_deep _ _ (at_first start _ _ c.first-first.ensures k))
+    too_deep _ _ _ _ c.from_residual.ensures.1 c.in_err-deeper-in-Mark-LeftParen.ensures (paren_deep _ _ (at_first start _ _ c.first-first.ensures k))
 
-pub factor-returns-in_err-inner : goal.factor-returns-in_err-inner
-factor-returns-in_err-inner t c =
+pub factor-returns-in_err-inner-in-Mark-LeftParen : goal.factor-returns-in_err-inner-in-Mark-LeftParen
+factor-returns-in_err-inner-in-Mark-LeftParen t c =
     let k : start (sym_of c.first-first.result.symbol) ≡ an_opening = search rules in
-    broke _ c.from-residual-in_err-inner.ensures.1 c.in_err-inner.ensures (factor_paren _ _ _ _ _ (at_first start _ _ c.first-first.ensures k) (ap (λ s. s.place) c.first-first.ensures) c.in_ok-deeper.ensures.0 c.in_ok-deeper.ensures.1)
+    broke _ c.from_residual-in_err-inner-in-Mark-LeftParen.ensures.1 c.in_err-inner-in-Mark-LeftParen.ensures (factor_paren _ _ _ _ _ (at_first start _ _ c.first-first.ensures k) (ap (λ s. s.place) c.first-first.ensures) c.in_ok-deeper-in-Mark-LeftParen.ensures.0 c.in_ok-deeper-in-Mark-LeftParen.ensures.1)
 
-pub factor-returns-in_err-mark : goal.factor-returns-in_err-mark
-factor-returns-in_err-mark t c =
+pub factor-returns-in_err-mark-in-Mark-LeftParen : goal.factor-returns-in_err-mark-in-Mark-LeftParen
+factor-returns-in_err-mark-in-Mark-LeftParen t c =
     let k : start (sym_of c.first-first.result.symbol) ≡ an_opening = search rules in
-    broke _ c.from_residual-in_err-mark.ensures.1 c.in_err-mark.ensures (onward _ (factor_paren _ _ _ _ _ (at_first start _ _ c.first-first.ensures k) (ap (λ s. s.place) c.first-first.ensures) c.in_ok-deeper.ensures.0 c.in_ok-deeper.ensures.1) (followed c.in_ok-inner.ensures))
+    broke _ c.from_residual-in_err-mark-in-Mark-LeftParen.ensures.1 c.in_err-mark-in-Mark-LeftParen.ensures (onward _ (factor_paren _ _ _ _ _ (at_first start _ _ c.first-first.ensures k) (ap (λ s. s.place) c.first-first.ensures) c.in_ok-deeper-in-Mark-LeftParen.ensures.0 c.in_ok-deeper-in-Mark-LeftParen.ensures.1) (followed c.in_ok-inner-in-Mark-LeftParen.ensures))
 
-pub factor-returns-in_ok-of-paren : goal.factor-returns-in_ok-of-paren
-factor-returns-in_ok-of-paren t c =
+pub factor-returns-in_ok-of_paren-in-Mark-LeftParen : goal.factor-returns-in_ok-of_paren-in-Mark-LeftParen
+factor-returns-in_ok-of_paren-in-Mark-LeftParen t c =
     let k : start (sym_of c.first-first.result.symbol) ≡ an_opening = search rules in
-    made (onward _ (onward _ (factor_paren _ _ _ _ _ (at_first start _ _ c.first-first.ensures k) (ap (λ s. s.place) c.first-first.ensures) c.in_ok-deeper.ensures.0 c.in_ok-deeper.ensures.1) (followed c.in_ok-inner.ensures)) (followed c.in_ok-mark.ensures)) c.in_ok-of-paren.ensures
+    made (onward _ (onward _ (factor_paren _ _ _ _ _ (at_first start _ _ c.first-first.ensures k) (ap (λ s. s.place) c.first-first.ensures) c.in_ok-deeper-in-Mark-LeftParen.ensures.0 c.in_ok-deeper-in-Mark-LeftParen.ensures.1) (followed c.in_ok-inner-in-Mark-LeftParen.ensures)) (followed c.in_ok-mark-in-Mark-LeftParen.ensures)) c.in_ok-of_paren-in-Mark-LeftParen.ensures
 
-pub factor-returns-in_err-deeper-2 : goal.factor-returns-in_err-deeper-2
-factor-returns-in_err-deeper-2 t c =
+pub factor-returns-in_err-deeper-in-Word-Not : goal.factor-returns-in_err-deeper-in-Word-Not
+factor-returns-in_err-deeper-in-Word-Not t c =
     let k : start (sym_of c.first-first.result.symbol) ≡ a_not = search rules in
-    too_deep _ _ _ _ c.from-residual-in_err-deeper-2.ensures.1 c.in_err-deeper-2.ensures (not_deep _ _ (at_first start _ _ c.first-first.ensures k))
+    too_deep _ _ _ _ c.from_residual-in_err-deeper-in-Word-Not.ensures.1 c.in_err-deeper-in-Word-Not.ensures (not_deep _ _ (at_first start _ _ c.first-first.ensures k))
 
-pub factor-returns-in_err-inner-2 : goal.factor-returns-in_err-inner-2
-factor-returns-in_err-inner-2 t c =
+pub factor-returns-in_err-inner-in-Word-Not : goal.factor-returns-in_err-inner-in-Word-Not
+factor-returns-in_err-inner-in-Word-Not t c =
     let k : start (sym_of c.first-first.result.symbol) ≡ a_not = search rules in
-    broke _ c.from-residual-in_err-inner-2.ensures.1 c.in_err-inner-2.ensures (factor_not _ _ _ _ _ (at_first start _ _ c.first-first.ensures k) (ap (λ s. s.place) c.first-first.ensures) c.in_ok-deeper-2.ensures.0 c.in_ok-deeper-2.ensures.1)
+    broke _ c.from_residual-in_err-inner-in-Word-Not.ensures.1 c.in_err-inner-in-Word-Not.ensures (factor_not _ _ _ _ _ (at_first start _ _ c.first-first.ensures k) (ap (λ s. s.place) c.first-first.ensures) c.in_ok-deeper-in-Word-Not.ensures.0 c.in_ok-deeper-in-Word-Not.ensures.1)
 
-pub factor-returns-in_ok-of-not : goal.factor-returns-in_ok-of-not
-factor-returns-in_ok-of-not t c =
+pub factor-returns-in_ok-of_not-in-Word-Not : goal.factor-returns-in_ok-of_not-in-Word-Not
+factor-returns-in_ok-of_not-in-Word-Not t c =
     let k : start (sym_of c.first-first.result.symbol) ≡ a_not = search rules in
-    made (onward _ (factor_not _ _ _ _ _ (at_first start _ _ c.first-first.ensures k) (ap (λ s. s.place) c.first-first.ensures) c.in_ok-deeper-2.ensures.0 c.in_ok-deeper-2.ensures.1) (followed c.in_ok-inner-2.ensures)) c.in_ok-of-not.ensures
+    made (onward _ (factor_not _ _ _ _ _ (at_first start _ _ c.first-first.ensures k) (ap (λ s. s.place) c.first-first.ensures) c.in_ok-deeper-in-Word-Not.ensures.0 c.in_ok-deeper-in-Word-Not.ensures.1) (followed c.in_ok-inner-in-Word-Not.ensures)) c.in_ok-of_not-in-Word-Not.ensures
 
 pub factor-returns-in_default : goal.factor-returns-in_default
 factor-returns-in_default t c =

@@ -42,69 +42,69 @@ type_expr-returns-in_default t c =
 
 pub array-returns-in_err-deeper : goal.array-returns-in_err-deeper
 array-returns-in_err-deeper t c =
-    too_deep _ _ _ _ c.from-residual.ensures.1 c.in_err-deeper.ensures (array_deep _ _)
+    too_deep _ _ _ _ c.from_residual.ensures.1 c.in_err-deeper.ensures (array_deep _ _)
 
 pub array-returns-in_err-low : goal.array-returns-in_err-low
 array-returns-in_err-low t c =
-    broke _ c.from-residual-in_err-low.ensures.1 c.in_err-low.ensures
+    broke _ c.from_residual-in_err-low.ensures.1 c.in_err-low.ensures
     (array_is _ _ _ _ _ (ap (λ s. s.place) c.first-place.ensures) c.in_ok-deeper.ensures.0 c.in_ok-deeper.ensures.1)
 
 pub array-returns-in_err-mark : goal.array-returns-in_err-mark
 array-returns-in_err-mark t c =
-    broke _ c.from-residual-in_err-mark.ensures.1 c.in_err-mark.ensures
+    broke _ c.from_residual-in_err-mark.ensures.1 c.in_err-mark.ensures
     (onward _ (array_is _ _ _ _ _ (ap (λ s. s.place) c.first-place.ensures) c.in_ok-deeper.ensures.0 c.in_ok-deeper.ensures.1) (followed c.in_ok-low.ensures))
 
 pub array-returns-in_err-high : goal.array-returns-in_err-high
 array-returns-in_err-high t c =
-    broke _ c.from-residual-in_err-high.ensures.1 c.in_err-high.ensures
+    broke _ c.from_residual-in_err-high.ensures.1 c.in_err-high.ensures
     (onward _ (onward _ (array_is _ _ _ _ _ (ap (λ s. s.place) c.first-place.ensures) c.in_ok-deeper.ensures.0 c.in_ok-deeper.ensures.1) (followed c.in_ok-low.ensures)) (followed c.in_ok-mark.ensures))
 
 pub array-returns-in_err-word : goal.array-returns-in_err-word
 array-returns-in_err-word t c =
-    broke _ c.from-residual-in_err-word.ensures.1 c.in_err-word.ensures
+    broke _ c.from_residual-in_err-word.ensures.1 c.in_err-word.ensures
     (onward _ (onward _ (onward _ (array_is _ _ _ _ _ (ap (λ s. s.place) c.first-place.ensures) c.in_ok-deeper.ensures.0 c.in_ok-deeper.ensures.1) (followed c.in_ok-low.ensures)) (followed c.in_ok-mark.ensures)) (followed c.in_ok-high.ensures))
 
 pub array-returns-in_err-element : goal.array-returns-in_err-element
 array-returns-in_err-element t c =
-    broke _ c.from-residual-in_err-element.ensures.1 c.in_err-element.ensures
+    broke _ c.from_residual-in_err-element.ensures.1 c.in_err-element.ensures
     (onward _ (onward _ (onward _ (onward _ (array_is _ _ _ _ _ (ap (λ s. s.place) c.first-place.ensures) c.in_ok-deeper.ensures.0 c.in_ok-deeper.ensures.1) (followed c.in_ok-low.ensures)) (followed c.in_ok-mark.ensures)) (followed c.in_ok-high.ensures)) (followed c.in_ok-word.ensures))
 
 pub array-returns : goal.array-returns
 array-returns t c =
-    made (onward _ (onward _ (onward _ (onward _ (onward _ (array_is _ _ _ _ _ (ap (λ s. s.place) c.first-place.ensures) c.in_ok-deeper.ensures.0 c.in_ok-deeper.ensures.1) (followed c.in_ok-low.ensures)) (followed c.in_ok-mark.ensures)) (followed c.in_ok-high.ensures)) (followed c.in_ok-word.ensures)) (followed c.in_ok-element.ensures)) c.in_ok-of-array.ensures
+    made (onward _ (onward _ (onward _ (onward _ (onward _ (array_is _ _ _ _ _ (ap (λ s. s.place) c.first-place.ensures) c.in_ok-deeper.ensures.0 c.in_ok-deeper.ensures.1) (followed c.in_ok-low.ensures)) (followed c.in_ok-mark.ensures)) (followed c.in_ok-high.ensures)) (followed c.in_ok-word.ensures)) (followed c.in_ok-element.ensures)) c.in_ok-of_array.ensures
 
 -- ---- section
 
 pub section-returns-in_err-names : goal.section-returns-in_err-names
 section-returns-in_err-names t c =
-    broke _ c.from-residual.ensures.1 c.in_err-names.ensures (section_is _ _ _)
+    broke _ c.from_residual.ensures.1 c.in_err-names.ensures (section_is _ _ _)
 
 pub section-returns-in_err-mark : goal.section-returns-in_err-mark
 section-returns-in_err-mark t c =
-    broke _ c.from-residual-in_err-mark.ensures.1 c.in_err-mark.ensures (onward _ (section_is _ _ _) (followed c.in_ok-names.ensures))
+    broke _ c.from_residual-in_err-mark.ensures.1 c.in_err-mark.ensures (onward _ (section_is _ _ _) (followed c.in_ok-names.ensures))
 
 pub section-returns-in_err-field : goal.section-returns-in_err-field
 section-returns-in_err-field t c =
-    broke _ c.from-residual-in_err-field.ensures.1 c.in_err-field.ensures (onward _ (onward _ (section_is _ _ _) (followed c.in_ok-names.ensures)) (followed c.in_ok-mark.ensures))
+    broke _ c.from_residual-in_err-field.ensures.1 c.in_err-field.ensures (onward _ (onward _ (section_is _ _ _) (followed c.in_ok-names.ensures)) (followed c.in_ok-mark.ensures))
 
 pub section-returns : goal.section-returns
 section-returns t c =
-    made (onward _ (onward _ (onward _ (section_is _ _ _) (followed c.in_ok-names.ensures)) (followed c.in_ok-mark.ensures)) (followed c.in_ok-field.ensures)) c.in_ok-of-section.ensures
+    made (onward _ (onward _ (onward _ (section_is _ _ _) (followed c.in_ok-names.ensures)) (followed c.in_ok-mark.ensures)) (followed c.in_ok-field.ensures)) c.in_ok-of_section.ensures
 
 -- ---- record
 
 pub record-returns-in_err-deeper : goal.record-returns-in_err-deeper
 record-returns-in_err-deeper t c =
-    too_deep _ _ _ _ c.from-residual.ensures.1 c.in_err-deeper.ensures (record_deep _ _)
+    too_deep _ _ _ _ c.from_residual.ensures.1 c.in_err-deeper.ensures (record_deep _ _)
 
 pub record-returns-in_err-sections : goal.record-returns-in_err-sections
 record-returns-in_err-sections t c =
-    broke_joined _ _ _ c.from-residual-in_err-sections.ensures.1 c.in_err-sections.ensures
+    broke_joined _ _ _ c.from_residual-in_err-sections.ensures.1 c.in_err-sections.ensures
     ((record_is _ _ _ _ _ (ap (λ s. s.place) c.first-place.ensures) c.in_ok-deeper.ensures.0 c.in_ok-deeper.ensures.1) ∙ within_list _ _ _ _ _ _ _ (list_is Semicolon _ _))
 
 pub record-returns-in_err-sections-2 : goal.record-returns-in_err-sections-2
 record-returns-in_err-sections-2 t c =
-    broke_joined _ _ _ c.from-residual-in_err-sections-2.ensures.1 c.in_err-sections-2.ensures
+    broke_joined _ _ _ c.from_residual-in_err-sections-2.ensures.1 c.in_err-sections-2.ensures
     ((record_is _ _ _ _ _ (ap (λ s. s.place) c.first-place.ensures) c.in_ok-deeper.ensures.0 c.in_ok-deeper.ensures.1) ∙ within_list _ _ _ _ _ _ _ ((list_joined Semicolon _ _ _ _ (followed c.in_ok-sections.ensures)) ∙ sym c.loop-cursor.invariant ∙ further_turn Semicolon _ (section_within _ (type_within _)) _ _ _ (sym c.loop-cursor-test.ensures) c.advance.ensures))
 
 pub record-loop-cursor-smaller : goal.record-loop-cursor-smaller
@@ -117,10 +117,10 @@ record-loop-cursor-preserved t c =
 
 pub record-returns-in_err-word : goal.record-returns-in_err-word
 record-returns-in_err-word t c =
-    broke _ c.from-residual-in_err-word.ensures.1 c.in_err-word.ensures
+    broke _ c.from_residual-in_err-word.ensures.1 c.in_err-word.ensures
     (onward _ (record_is _ _ _ _ _ (ap (λ s. s.place) c.first-place.ensures) c.in_ok-deeper.ensures.0 c.in_ok-deeper.ensures.1) ((list_joined Semicolon _ _ _ _ (followed c.in_ok-sections.ensures)) ∙ sym c.loop-cursor.invariant ∙ further_stop Semicolon _ (section_within _ (type_within _)) _ _ (sym c.loop-cursor-test.ensures)))
 
 pub record-returns : goal.record-returns
 record-returns t c =
     made (onward _ (onward _ (record_is _ _ _ _ _ (ap (λ s. s.place) c.first-place.ensures) c.in_ok-deeper.ensures.0 c.in_ok-deeper.ensures.1) ((list_joined Semicolon _ _ _ _ (followed c.in_ok-sections.ensures)) ∙ sym c.loop-cursor.invariant ∙ further_stop Semicolon _ (section_within _ (type_within _)) _ _ (sym c.loop-cursor-test.ensures))) (followed c.in_ok-word.ensures))
-    (c.in_ok-of-record.ensures ∙ ap (λ l. tree.record_of c.first-place.result.place (tree.secs l)) c.in_ok-sections-3.ensures)
+    (c.in_ok-of_record.ensures ∙ ap (λ l. tree.record_of c.first-place.result.place (tree.secs l)) c.in_ok-sections-3.ensures)

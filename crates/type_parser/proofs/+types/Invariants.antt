@@ -11,8 +11,8 @@ use Rattle.type_parser.proofs.+types.Given as goal
 abbrev pub decreases-section : goal.decreases-section
 decreases-section l = l.allowance * 4 + 3
 
-abbrev pub decreases-type-expr : goal.decreases-type-expr
-decreases-type-expr l = l.allowance * 4 + 2
+abbrev pub decreases-type_expr : goal.decreases-type_expr
+decreases-type_expr l = l.allowance * 4 + 2
 
 abbrev pub decreases-array : goal.decreases-array
 decreases-array l = l.allowance * 4 + 1

@@ -8,7 +8,7 @@ use Rattle.type_parser.proofs.Moves.{constant_fault, constant_signed, constant_n
 use Rattle.type_parser.proofs.constant.Goals as goal
 
 pub returns-in_err-number : goal.returns-in_err-number
-returns-in_err-number c = broke _ c.from-residual.ensures.1 c.in_err-number.ensures (constant_signed _ _ _ _ c.read_sign-sign.ensures.0 c.in-Some.is c.read_sign-sign.ensures.1)
+returns-in_err-number c = broke _ c.from_residual.ensures.1 c.in_err-number.ensures (constant_signed _ _ _ _ c.read_sign-sign.ensures.0 c.in-Some.is c.read_sign-sign.ensures.1)
 
 pub returns-in-Some : goal.returns-in-Some
 returns-in-Some c = follow (onward _ (constant_signed _ _ _ _ c.read_sign-sign.ensures.0 c.in-Some.is c.read_sign-sign.ensures.1) (followed c.in_ok-number.ensures))

@@ -6,13 +6,13 @@ use Rattle.type_parser.proofs.Moves.{enumeration_deep, enumeration_is}
 use Rattle.type_parser.proofs.enumeration.Goals as goal
 
 pub returns-in_err-deeper : goal.returns-in_err-deeper
-returns-in_err-deeper c = too_deep _ _ _ _ c.from-residual.ensures.1 c.in_err-deeper.ensures (enumeration_deep _ _)
+returns-in_err-deeper c = too_deep _ _ _ _ c.from_residual.ensures.1 c.in_err-deeper.ensures (enumeration_deep _ _)
 
 pub returns-in_err-names : goal.returns-in_err-names
-returns-in_err-names c = broke _ c.from-residual-in_err-names.ensures.1 c.in_err-names.ensures (enumeration_is _ _ _ _ _ (ap (λ s. s.place) c.first-place.ensures) c.in_ok-deeper.ensures.0 c.in_ok-deeper.ensures.1)
+returns-in_err-names c = broke _ c.from_residual-in_err-names.ensures.1 c.in_err-names.ensures (enumeration_is _ _ _ _ _ (ap (λ s. s.place) c.first-place.ensures) c.in_ok-deeper.ensures.0 c.in_ok-deeper.ensures.1)
 
 pub returns-in_err-mark : goal.returns-in_err-mark
-returns-in_err-mark c = broke _ c.from-residual-in_err-mark.ensures.1 c.in_err-mark.ensures (onward _ (enumeration_is _ _ _ _ _ (ap (λ s. s.place) c.first-place.ensures) c.in_ok-deeper.ensures.0 c.in_ok-deeper.ensures.1) (followed c.in_ok-names.ensures))
+returns-in_err-mark c = broke _ c.from_residual-in_err-mark.ensures.1 c.in_err-mark.ensures (onward _ (enumeration_is _ _ _ _ _ (ap (λ s. s.place) c.first-place.ensures) c.in_ok-deeper.ensures.0 c.in_ok-deeper.ensures.1) (followed c.in_ok-names.ensures))
 
 pub returns : goal.returns
 returns c = follow (onward _ (onward _ (enumeration_is _ _ _ _ _ (ap (λ s. s.place) c.first-place.ensures) c.in_ok-deeper.ensures.0 c.in_ok-deeper.ensures.1) (followed c.in_ok-names.ensures)) (followed c.in_ok-mark.ensures))
