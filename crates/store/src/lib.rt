@@ -145,8 +145,8 @@ impl<S: Store> Store for Bay<S> {
 
 // Makes the first `n` cells 0, as far as they exist.
 pub fn clear<S: Store>(store: &mut S, n: usize)
-    ensures after { cells store.new ≡ cleared n (cells store.old) }
-    ensures rest { beside store.old store.new }
+    ensures after { S.cells store.new ≡ cleared n (S.cells store.old) }
+    ensures rest { S.beside store.old store.new }
 {
     let most = store.count().min(n);
     for i in 0..most {

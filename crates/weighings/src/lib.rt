@@ -12,9 +12,9 @@ use strip::Strip;
 
 // Writes the numbers into the first cells, as far as both go, and answers how many.
 pub fn write_all<S: Store>(store: &mut S, numbers: &[i32]) -> usize
-    ensures value { result ≡ min (length numbers.now) (length (cells store.old)) }
-    ensures after { cells store.new ≡ copied numbers.now (cells store.old) }
-    ensures rest { beside store.old store.new }
+    ensures value { result ≡ min (length numbers.now) (length (S.cells store.old)) }
+    ensures after { S.cells store.new ≡ copied numbers.now (S.cells store.old) }
+    ensures rest { S.beside store.old store.new }
 {
     let most = numbers.len().min(store.count());
     for i in 0..most {

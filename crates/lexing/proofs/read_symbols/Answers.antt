@@ -12,10 +12,10 @@ use Rattle.lexing.proofs.read_symbols.Goals as goal
 pub loop-fault-init : goal.loop-fault-init
 loop-fault-init c =
     let text = c.args.text.now in
-    let starts = c.in-ok-scanner.ensures in
+    let starts = c.in_ok-scanner.ensures in
     let at = starts.1.1 in
     let nothing : map placed_of (vec_items c.new-list.result) ≡ [] = ap (map placed_of) c.new-list.ensures.items in
-    (starts.1.0, omega arith, starts.0, ap (λ ss. onto ss (rest text (place_in c.in-ok-scanner.scanner))) nothing ∙ ap (λ k. onto [] (rest text k)) at ∙ rest_whole text)
+    (starts.1.0, omega arith, starts.0, ap (λ ss. onto ss (rest text (place_in c.in_ok-scanner.scanner))) nothing ∙ ap (λ k. onto [] (rest text k)) at ∙ rest_whole text)
 
 pub returns-in-Err : goal.returns-in-Err
 returns-in-Err c =
@@ -41,7 +41,7 @@ loop-fault-smaller c =
     let at = place_in c.loop-fault.scanner in
     let inv = c.loop-fault.invariant in
     let e = c.in-Ok.ensures.answer ∙ ap (λ xs. scan xs at) inv.0 in
-    let on = goes_on text at (map placed_of (vec_items c.loop-fault.list)) inv.3 (placed_of c.in-Ok.next) (place_in c.next.new.self) e (not_ending c.in-Ok.next.symbol c.in-default.not-End) in
+    let on = goes_on text at (map placed_of (vec_items c.loop-fault.list)) inv.3 (placed_of c.in-Ok.next) (place_in c.next.new.self) e (not_ending c.in-Ok.next.symbol c.in_default.not-End) in
     let ahead = on.0 in
     let fits = on.1 in
     omega arith
@@ -54,9 +54,9 @@ loop-fault-preserved c =
     let ss = map placed_of (vec_items c.loop-fault.list) in
     let next = c.in-Ok.next in
     let e = c.in-Ok.ensures.answer ∙ ap (λ xs. scan xs at) inv.0 in
-    let proper = not_ending next.symbol c.in-default.not-End in
+    let proper = not_ending next.symbol c.in_default.not-End in
     let on = goes_on text at ss inv.3 (placed_of next) (place_in c.next.new.self) e proper in
-    let pushed = chosen _ _ _ _ c.push.ensures.items (ap is_ok c.in-ok-push.was) in
+    let pushed = chosen _ _ _ _ c.push.ensures.items (ap is_ok c.in_ok-push-in_default.was) in
     let listed : map placed_of (vec_items c.push.new.self) ≡ ss ++ placed_of next ∷ [] = ap (map placed_of) pushed ∙ map_push (vec_items c.loop-fault.list) next in (
       c.in-Ok.ensures.text ∙ inv.0,
       on.1,

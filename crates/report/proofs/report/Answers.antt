@@ -10,4 +10,4 @@ returns-in-End c =
     let symbols = c.in-Ok.symbols in
     let value = c.in-Ok.ensures.value in
     let count = c.len-count.ensures ∙ symbols.list.ok.0 ∙ sym (length-map (vec_items symbols.list) placed_of) in
-    c.in-ok-format.ensures.ok ∙ ended_line c.args.text.now (reading_of symbols) _ _ value.0 value.1 count c.in-End.is
+    c.in_ok-format-in-End.ensures.ok ∙ ended_line c.args.text.now (reading_of symbols) _ _ value.0 value.1 count c.in-End.is

@@ -2,7 +2,7 @@ use Rattle.std.proofs.Common.{arith, w32, SFits, rules}
 use Rattle.std.proofs.lemmas.Int.{to_z-of_z}
 use Rattle.store.proofs.Loops.{copy_more, copy_all, cell_is, cell_there}
 use Rattle.store.proofs.copy.Goals as goal
-use Rattle.store.proofs.copy.Goals.{in-Ok, in-default}
+use Rattle.store.proofs.copy.Goals.{in-Ok, in_default}
 
 pub loop-i-preserved : goal.loop-i-preserved
 loop-i-preserved g c =
@@ -15,7 +15,7 @@ loop-i-preserved g c =
           let fits : SFits w32 v = search rules in
           let m = copy_more xs ys i v (cell_is xs i v w.in-Ok.ensures) (omega arith) (omega arith) in
           (rw w.to-is (rw w.put.ensures.after (simp to_z-of_z (rw c.loop-i.invariant.0 m))), rw w.to-is (g.D.Store.steady.along _ _ _ c.loop-i.invariant.1 w.put.ensures.rest))
-      | in-default w ↦ absurd (cell_there xs i w.in-default.field-0 (omega arith) w.in-default.ensures)
+      | in_default w ↦ absurd (cell_there xs i w.in_default.field-0 (omega arith) w.in_default.ensures)
     ]
 
 pub returns : goal.returns

@@ -9,6 +9,6 @@ returns g c =
     let numbers = c.args.weighings.now in
     let clean = bay_cells g.S.Store.cells c.clear.new.store in
     record {
-      cells = ◌∙◌ {b = copied numbers clean} c.write-all.ensures.after (ap (copied numbers) c.clear.ensures.after);
-      rest = steady.along _ _ _ c.clear.ensures.rest c.write-all.ensures.rest;
+      cells = ◌∙◌ {b = copied numbers clean} c.write_all.ensures.after (ap (copied numbers) c.clear.ensures.after);
+      rest = steady.along _ _ _ c.clear.ensures.rest c.write_all.ensures.rest;
     }

@@ -3,14 +3,14 @@ use Rattle.std.specs.Char.{is_ascii_alphanumeric}
 use Rattle.std.proofs.lemmas.List.Sums.{prefix_len-drop_yes, prefix_len-drop_no, prefix_len-drop_all}
 use Rattle.scanner.proofs.front.run_length.Goals as goal
 
-pub returns-then-not-is-ascii-alphanumeric : goal.returns-then-not-is-ascii-alphanumeric
-returns-then-not-is-ascii-alphanumeric c =
-    let e = prefix_len-drop_no is_ascii_alphanumeric c.args.text.now c.loop-n.n 0 c.loop-n-test.true (sym c.if-not-is-ascii-alphanumeric.ensures.value) in
+pub returns-then-not-is_ascii_alphanumeric : goal.returns-then-not-is_ascii_alphanumeric
+returns-then-not-is_ascii_alphanumeric c =
+    let e = prefix_len-drop_no is_ascii_alphanumeric c.args.text.now c.loop-n.n 0 c.loop-n-test.true (sym c.if-not-is_ascii_alphanumeric.ensures.value) in
     record { value = omega arith; within = omega arith }
 
 pub loop-n-preserved : goal.loop-n-preserved
 loop-n-preserved c =
-    let e = prefix_len-drop_yes is_ascii_alphanumeric c.args.text.now c.loop-n.n 0 c.loop-n-test.true (sym c.if-not-is-ascii-alphanumeric.ensures.value) in
+    let e = prefix_len-drop_yes is_ascii_alphanumeric c.args.text.now c.loop-n.n 0 c.loop-n-test.true (sym c.if-not-is_ascii_alphanumeric.ensures.value) in
     omega arith
 
 pub returns : goal.returns

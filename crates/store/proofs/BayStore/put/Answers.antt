@@ -15,8 +15,8 @@ returns-then-n-count g c =
       below = grind (arith, nat_tests);
     }
 
-pub overflow-add-at : goal.overflow-add-at
-overflow-add-at g c =
+pub overflow_add-at : goal.overflow_add-at
+overflow_add-at g c =
     let w = window_length c.args.self.now.first c.args.self.now.len (g.S.Store.cells c.args.self.now.below) in
     omega (arith, g.S.Store.bounds.few c.args.self.now.below)
 

@@ -27,11 +27,11 @@ returns c =
     let n = c.args.n in
     let v = c.args.v in
     let fits = c.ranges.v in
-    let ws : c.to-be-bytes.result ≡ bytes_of v = simp to_z-of_z at c.to-be-bytes.ensures in
-    let w : set4 bs (4 * n) c.to-be-bytes.result ≡ set4 bs (4 * n) (bytes_of v) = ap (set4 bs (4 * n)) ws in
+    let ws : c.to_be_bytes.result ≡ bytes_of v = simp to_z-of_z at c.to_be_bytes.ensures in
+    let w : set4 bs (4 * n) c.to_be_bytes.result ≡ set4 bs (4 * n) (bytes_of v) = ap (set4 bs (4 * n)) ws in
     record {
       value = grind (arith, nat_tests);
       after = ap strip_cells w ∙ strip_set bs n v fits (omega arith);
-      rest = (refl, leftover_set bs n c.to-be-bytes.result (omega arith));
+      rest = (refl, leftover_set bs n c.to_be_bytes.result (omega arith));
       bytes = w ∙ with_cell_lem bs n v (omega arith);
     }
