@@ -14,7 +14,7 @@ import sys
 
 TOKEN = re.compile(r"[^\s(){}\[\],;:.\"`←λ⌜⌝]+")
 # A definition of these crates has the name of a lemma of others.
-THERE = {c: {"formals-of": "procedure_formals"} for c in ("program", "meaning", "machine", "worked")}
+THERE = {c: {"formals-of": "procedure_formals", "to-index": "to_index"} for c in ("program", "meaning", "machine", "worked")}
 DECLARED = re.compile(r"\s*(?:abbrev |unfoldable )?(?:pub )?(?:record |data )?([^\s:(){},.;]+)\s+(?:\{[^}]*\}\s*|\([^)]*\)\s*)*:")
 # Several constructors of one type, on one line.
 SEVERAL = re.compile(r"  +((?!let |pub |module |abbrev |unfoldable )[^\s:(){},.;=→]+(?: [^\s:(){},.;=→]+)+) :")
@@ -32,7 +32,8 @@ OWN = {
     "typeExpr": "type_expr_of",
     "goesOn": "next_place",
     "cell-of": "cell_of_name",
-    # lemmas, which port.py had in snake case already
+    # a fact and lemmas, which port.py had in snake case already
+    "Goes_on": "GoesOn",
     "name_in": "name_in_lem",
     "number-in": "number_in_lem",
     "with_cell": "with_cell_lem",

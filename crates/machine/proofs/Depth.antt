@@ -14,7 +14,7 @@ use Rattle.program.specs.Trees.Function.{function}
 use Rattle.meaning.specs.Actions.{truth}
 use Rattle.meaning.specs.Meaning.{needed}
 use Rattle.machine.specs.Machine.{Task, Held, Config, Next, Now, one_less, the_value, top, pop, pops, then, start, arrives, next_apply, next_call}
-use Rattle.machine.specs.Machine.Task.{to_eval, to_locate, to_pass, to_exec, to_arms, to_turn, to_take, to_receive, to_sign, to_operate, to_decide, to_index_lem, to_select, to_store, to_write, to_deliver, to_test, to_while, to_until, to_exit, to_close, to_apply, to_call, to_leave, to_leave_with}
+use Rattle.machine.specs.Machine.Task.{to_eval, to_locate, to_pass, to_exec, to_arms, to_turn, to_take, to_receive, to_sign, to_operate, to_decide, to_index, to_select, to_store, to_write, to_deliver, to_test, to_while, to_until, to_exit, to_close, to_apply, to_call, to_leave, to_leave_with}
 use Rattle.machine.specs.Machine.Next.{none, acts, awaits, offers}
 use Rattle.machine.specs.Machine.Now.{there, fallen}
 use Rattle.machine.specs.Moves.Move.{rests, moves}
@@ -125,7 +125,7 @@ move_reckoned (to_operate at o ∷ k) h p c i = λ v. two_less h k p.0 i
 move_reckoned (to_decide at j e ∷ k) h p c i = λ v.
     let a = one h p.0 (omega (arith, p.0)) in
     either_reckoned (needed j (the_value (top h))) _ _ (omega (arith, a.0, a.1)) (omega (arith, a.0, a.1))
-move_reckoned (to_index_lem taken at w low high s ∷ k) h p c i = λ v. two_less h k p.0 i
+move_reckoned (to_index taken at w low high s ∷ k) h p c i = λ v. two_less h k p.0 i
 move_reckoned (to_select o ∷ k) h p c i = let a = one h p.0 (omega (arith, p.0)) in omega (arith, a.0, a.1)
 move_reckoned (to_store at ∷ k) h p c i = λ v. let e = two_less h k p.0 i in omega (arith, e)
 move_reckoned (to_write at b ∷ k) h p c i = λ v.
@@ -238,7 +238,7 @@ move_tells (to_receive a t ∷ k) h p i = tt
 move_tells (to_sign at g ∷ k) h p i = λ v. sym (deep_one k (to_sign at g) h p.0 i)
 move_tells (to_operate at o ∷ k) h p i = λ v. sym (deep_two k (to_operate at o) h p.0 i)
 move_tells (to_decide at j e ∷ k) h p i = λ v. decision_tells (needed j (the_value (top h))) (one_less h.depth) _ _ refl refl
-move_tells (to_index_lem taken at w low high s ∷ k) h p i = λ v. index_tells taken (one_less h.depth) 0 (deep_two k (to_index_lem taken at w low high s) h p.0 i)
+move_tells (to_index taken at w low high s ∷ k) h p i = λ v. index_tells taken (one_less h.depth) 0 (deep_two k (to_index taken at w low high s) h p.0 i)
 move_tells (to_select o ∷ k) h p i = tt
 move_tells (to_store at ∷ k) h p i = λ v. refl
 move_tells (to_write at a ∷ k) h p i = λ v. refl

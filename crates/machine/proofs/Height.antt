@@ -13,7 +13,7 @@ use Rattle.program.specs.Trees.Function.{function}
 use Rattle.meaning.specs.Actions.{truth}
 use Rattle.meaning.specs.Meaning.{needed}
 use Rattle.machine.specs.Machine.{Task, Held, Config, the_value, top, start, next_apply, next_call}
-use Rattle.machine.specs.Machine.Task.{to_eval, to_locate, to_pass, to_exec, to_arms, to_turn, to_take, to_receive, to_sign, to_operate, to_decide, to_index_lem, to_select, to_store, to_write, to_deliver, to_test, to_while, to_until, to_exit, to_close, to_apply, to_call, to_leave, to_leave_with}
+use Rattle.machine.specs.Machine.Task.{to_eval, to_locate, to_pass, to_exec, to_arms, to_turn, to_take, to_receive, to_sign, to_operate, to_decide, to_index, to_select, to_store, to_write, to_deliver, to_test, to_while, to_until, to_exit, to_close, to_apply, to_call, to_leave, to_leave_with}
 use Rattle.machine.specs.Machine.Next.{none, acts, awaits, offers}
 use Rattle.machine.specs.Moves.{After, AfterMove, KeptByMoves, Move, move, move_eval, move_locate, move_pass, move_exec, move_arms, move_turn}
 use Rattle.machine.specs.Moves.Move.{rests, moves}
@@ -113,7 +113,7 @@ move_low (to_receive a t ∷ k) h = λ v. omega arith
 move_low (to_sign at g ∷ k) h = λ v. omega arith
 move_low (to_operate at o ∷ k) h = λ v. omega arith
 move_low (to_decide at j e ∷ k) h = λ v. either_low (needed j (the_value (top h))) _ _ _ (omega arith) (omega arith)
-move_low (to_index_lem taken at w low high s ∷ k) h = λ v. omega arith
+move_low (to_index taken at w low high s ∷ k) h = λ v. omega arith
 move_low (to_select o ∷ k) h = omega arith
 move_low (to_store at ∷ k) h = λ v. omega arith
 move_low (to_write at a ∷ k) h = λ v. omega arith

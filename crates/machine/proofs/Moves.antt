@@ -8,7 +8,7 @@ use Rattle.program.specs.Trees.Stmt.{skip, seq, assign, offer, if, while, repeat
 use Rattle.program.specs.Trees.Arms.{otherwise, arm}
 use Rattle.program.specs.Trees.Parts.{ends, exits}
 use Rattle.machine.specs.Machine.{Task, Held}
-use Rattle.machine.specs.Machine.Task.{to_eval, to_locate, to_pass, to_exec, to_arms, to_turn, to_take, to_receive, to_sign, to_operate, to_decide, to_index_lem, to_select, to_store, to_write, to_deliver, to_test, to_while, to_until, to_exit, to_close, to_apply, to_call, to_leave, to_leave_with}
+use Rattle.machine.specs.Machine.Task.{to_eval, to_locate, to_pass, to_exec, to_arms, to_turn, to_take, to_receive, to_sign, to_operate, to_decide, to_index, to_select, to_store, to_write, to_deliver, to_test, to_while, to_until, to_exit, to_close, to_apply, to_call, to_leave, to_leave_with}
 use Rattle.machine.specs.Moves.{move_eval, move_locate, move_pass, move_exec, move_arms, move_turn, SoundMove}
 use Rattle.machine.specs.Theorems.{MovesFind}
 
@@ -63,7 +63,7 @@ moves_find_lem (to_receive a t ∷ k) h = refl
 moves_find_lem (to_sign at g ∷ k) h = refl
 moves_find_lem (to_operate at o ∷ k) h = refl
 moves_find_lem (to_decide at j e ∷ k) h = refl
-moves_find_lem (to_index_lem taken at w low high s ∷ k) h = refl
+moves_find_lem (to_index taken at w low high s ∷ k) h = refl
 moves_find_lem (to_select o ∷ k) h = (refl, omega arith)
 moves_find_lem (to_store at ∷ k) h = refl
 moves_find_lem (to_write at a ∷ k) h = refl

@@ -14,7 +14,7 @@ use Rattle.program.specs.Trees.Function.{function}
 use Rattle.meaning.specs.Actions.{truth}
 use Rattle.meaning.specs.Meaning.{needed}
 use Rattle.machine.specs.Machine.{Task, Held, Config, the_value, top, pop, pops, then, start, next_apply, next_call}
-use Rattle.machine.specs.Machine.Task.{to_eval, to_locate, to_pass, to_exec, to_arms, to_turn, to_take, to_receive, to_sign, to_operate, to_decide, to_index_lem, to_select, to_store, to_write, to_deliver, to_test, to_while, to_until, to_exit, to_close, to_apply, to_call, to_leave, to_leave_with}
+use Rattle.machine.specs.Machine.Task.{to_eval, to_locate, to_pass, to_exec, to_arms, to_turn, to_take, to_receive, to_sign, to_operate, to_decide, to_index, to_select, to_store, to_write, to_deliver, to_test, to_while, to_until, to_exit, to_close, to_apply, to_call, to_leave, to_leave_with}
 use Rattle.machine.specs.Moves.{After, AfterMove, KeptByMoves, move_eval, move_locate, move_pass, move_exec, move_arms, move_turn}
 use Rattle.machine.specs.Opened.{leave_in, leaves_in, Covered}
 use Rattle.machine.specs.Theorems.{CallsCovered}
@@ -36,7 +36,7 @@ leaves_low (t ∷ k) = let i = leaves_low k in let j = one t in omega arith
     one (to_sign at g) = omega arith
     one (to_operate at o) = omega arith
     one (to_decide at j e) = omega arith
-    one (to_index_lem taken at w low high s) = omega arith
+    one (to_index taken at w low high s) = omega arith
     one (to_select o) = omega arith
     one (to_store at) = omega arith
     one (to_write at a) = omega arith
@@ -121,7 +121,7 @@ move_covered (to_receive a t ∷ k) h i = λ v. omega arith
 move_covered (to_sign at g ∷ k) h i = λ v. omega arith
 move_covered (to_operate at o ∷ k) h i = λ v. omega arith
 move_covered (to_decide at j e ∷ k) h i = λ v. either_covered (needed j (the_value (top h))) _ _ (omega arith) (omega arith)
-move_covered (to_index_lem taken at w low high s ∷ k) h i = λ v. omega arith
+move_covered (to_index taken at w low high s ∷ k) h i = λ v. omega arith
 move_covered (to_select o ∷ k) h i = omega arith
 move_covered (to_store at ∷ k) h i = λ v. omega arith
 move_covered (to_write at a ∷ k) h i = λ v. omega arith

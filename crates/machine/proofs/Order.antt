@@ -144,15 +144,15 @@ module _ (P : Program) (es : List Event) where
   r = meaning P es
 
   -- the calls to come do this from here
-  abbrev Goes_on : Now → Type 0
-  Goes_on n = (fs : List Event) → meaning P (es ++ fs) ≡ joined r (from_now n fs)
+  abbrev GoesOn : Now → Type 0
+  GoesOn n = (fs : List Event) → meaning P (es ++ fs) ≡ joined r (from_now n fs)
 
   -- a call that leaves the machine where it is
-  stays_so : (c : Config) (x : Next) → Goes_on (there c) → r.state ≡ state_of x → next c ≡ x → (e : Event) → run c (e ∷ []) ≡ run c []
+  stays_so : (c : Config) (x : Next) → GoesOn (there c) → r.state ≡ state_of x → next c ≡ x → (e : Event) → run c (e ∷ []) ≡ run c []
       → meaning P (es ++ e ∷ []) ≡ r
   stays_so c x g s q e h = g (e ∷ []) ∙ ap (joined r) (h ∙ stopped c x q) ∙ joined_stop r (state_of x) s
 
-  answers_there : (c : Config) (x : Next) → Goes_on (there c) → r.state ≡ state_of x → next c ≡ x → Answers P es (state_of x)
+  answers_there : (c : Config) (x : Next) → GoesOn (there c) → r.state ≡ state_of x → next c ≡ x → Answers P es (state_of x)
   answers_there c none g s q = λ fs. g fs ∙ ap (joined r) (idle c q fs) ∙ joined_stop r finished s
   answers_there c (acts at d a c') g s q = (
     (at, d, a, λ σ. ap (λ r. r.log) (g (step σ ∷ [])) ∙ ap (λ l. r.log ++ l) (ap (λ r. r.log) (one c _ q (step σ)) ∙ acted_log c at d a c' σ (outcome d a σ))),
@@ -171,7 +171,7 @@ module _ (P : Program) (es : List Event) where
     ap (λ r. r.log) (g (took ∷ [])) ∙ ap (λ l. r.log ++ l) (ap (λ r. r.log) (one c _ q took)) ∙ append-nil r.log,
   )
 
-  answers_now : (n : Now) → Goes_on n → r.state ≡ now_state n → Answers P es (now_state n)
+  answers_now : (n : Now) → GoesOn n → r.state ≡ now_state n → Answers P es (now_state n)
   answers_now (there c) g s = answers_there c (next c) g s refl
   answers_now (fallen t p) g s = λ fs. g fs ∙ joined_stop r (trapped t p) s
 

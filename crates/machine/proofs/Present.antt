@@ -13,7 +13,7 @@ use Rattle.program.specs.Trees.Function.{function}
 use Rattle.meaning.specs.Actions.{truth}
 use Rattle.meaning.specs.Meaning.{needed}
 use Rattle.machine.specs.Machine.{Task, Held, Config, the_value, top, then, start, how_many, next_apply, next_call}
-use Rattle.machine.specs.Machine.Task.{to_eval, to_locate, to_pass, to_exec, to_arms, to_turn, to_take, to_receive, to_sign, to_operate, to_decide, to_index_lem, to_select, to_store, to_write, to_deliver, to_test, to_while, to_until, to_exit, to_close, to_apply, to_call, to_leave, to_leave_with}
+use Rattle.machine.specs.Machine.Task.{to_eval, to_locate, to_pass, to_exec, to_arms, to_turn, to_take, to_receive, to_sign, to_operate, to_decide, to_index, to_select, to_store, to_write, to_deliver, to_test, to_while, to_until, to_exit, to_close, to_apply, to_call, to_leave, to_leave_with}
 use Rattle.machine.specs.Moves.{After, AfterMove, KeptByMoves, move_eval, move_locate, move_pass, move_exec, move_arms, move_turn}
 use Rattle.machine.specs.Waiting.{more_by}
 use Rattle.machine.specs.Present.{Enough, Present}
@@ -99,7 +99,7 @@ move_present (to_operate at o ∷ k) h i = λ v. enough_at k _ _ (ap suc (length
 move_present (to_decide at j e ∷ k) h i = λ v. either_present (needed j (the_value (top h))) _ _
     (omega arith, enough_at k _ _ (ap suc (length_tail h.waiting)) i.1)
     (enough_at k _ _ (ap suc (length_tail h.waiting)) i.1)
-move_present (to_index_lem taken at w low high s ∷ k) h i = λ v. enough_at k _ _ (ap suc (length_tails h.waiting)) i.1
+move_present (to_index taken at w low high s ∷ k) h i = λ v. enough_at k _ _ (ap suc (length_tails h.waiting)) i.1
 move_present (to_select o ∷ k) h i = enough_at k _ _ (ap suc (length_tail h.waiting)) i.1
 move_present (to_store at ∷ k) h i = λ v. enough_at k _ _ (length_tails h.waiting) i.1
 move_present (to_write at a ∷ k) h i = λ v. (omega arith, enough_at k _ _ (length_tail h.waiting) i.1)

@@ -21,7 +21,7 @@ use Rattle.meaning.specs.Actions.Event.{step, give, took}
 use Rattle.meaning.specs.Actions.State.{finished}
 use Rattle.meaning.specs.Meaning.{M, Done, return, act, await, deliver, goes_on, if_fits, choose, eval, locate, actuals, exec, arms, turn, applied, called, ◌>>=◌, ◌>>◌, way, needed}
 use Rattle.machine.specs.Machine.{Task, Held, Config, Next, the_value, the_cell, the_way, top, push, pop, pops, opens, closes, leaves, formals, then, how_many, next_take, next_select, next_apply, next_call, next_eval, next_locate, next_pass, next_exec, next_arms, next_turn, next_task, next_of, next, state_of, acted, answer, after, run, start}
-use Rattle.machine.specs.Machine.Task.{to_eval, to_locate, to_pass, to_exec, to_arms, to_turn, to_take, to_receive, to_sign, to_operate, to_decide, to_index_lem, to_select, to_store, to_write, to_deliver, to_test, to_while, to_until, to_exit, to_close, to_apply, to_call, to_leave, to_leave_with}
+use Rattle.machine.specs.Machine.Task.{to_eval, to_locate, to_pass, to_exec, to_arms, to_turn, to_take, to_receive, to_sign, to_operate, to_decide, to_index, to_select, to_store, to_write, to_deliver, to_test, to_while, to_until, to_exit, to_close, to_apply, to_call, to_leave, to_leave_with}
 use Rattle.machine.specs.Machine.Next.{none, acts, awaits, offers}
 use Rattle.machine.specs.Machine.Answer.{refused, went_on}
 use Rattle.machine.specs.Theorems.{Simulates}
@@ -66,7 +66,7 @@ perform (to_decide at j e) h = do
   act at (cond (needed j x) (pop h).depth (suc (pop h).depth)) (a_decision j x)
   v ← choose (needed j x) (eval (formals h) (pop h).depth e) (return x)
   return (push (val v) (pop h))
-perform (to_index_lem taken at w low high s) h = do
+perform (to_index taken at w low high s) h = do
   c ← act at (cond taken (pop (pop h)).depth (pop h).depth) (an_index (the_cell (top (pop h))) w low high s (the_value (top h)))
   return (push (ref (nat_abs c) (the_way (top (pop h)))) (pop (pop h)))
 perform (to_select o) h = return (push (ref (the_cell (top h) + o) (the_way (top h))) (pop h))
@@ -179,7 +179,7 @@ mutual
       → (h : Held) → perform (to_locate taken x) h (resume k) ≡ behaves (next_locate taken x k r h)
   locate_next taken (whole n) k r q h = q _
   locate_next taken (element at x w low high s e) k r q h =
-      locate_next false x (to_eval e ∷ to_index_lem taken at w low high s ∷ k) (next_eval e (to_index_lem taken at w low high s ∷ k)) (eval_next e (to_index_lem taken at w low high s ∷ k)) h
+      locate_next false x (to_eval e ∷ to_index taken at w low high s ∷ k) (next_eval e (to_index taken at w low high s ∷ k)) (eval_next e (to_index taken at w low high s ∷ k)) h
   locate_next taken (part at x w fs o) k r q h = locate_next taken x (to_select o ∷ k) (next_select o r) (λ h. q _) h
 
   pass_next : (xs : Actuals) (k : List Task) (r : Held → Next) → ((h : Held) → resume k h ≡ behaves (r h))
@@ -245,7 +245,7 @@ task_next (to_receive a t) k r q h = refl
 task_next (to_sign at g) k r q h = refl
 task_next (to_operate at o) k r q h = refl
 task_next (to_decide at j e) k r q h = act_then at _ _ _ _ (λ _. decided (needed j (the_value (top h))) e k (pop h) (the_value (top h)))
-task_next (to_index_lem taken at w low high s) k r q h = refl
+task_next (to_index taken at w low high s) k r q h = refl
 task_next (to_select o) k r q h = q _
 task_next (to_store at) k r q h = refl
 task_next (to_write at a) k r q h = refl

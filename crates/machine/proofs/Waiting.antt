@@ -14,7 +14,7 @@ use Rattle.program.specs.Trees.Function.{function}
 use Rattle.meaning.specs.Actions.{truth}
 use Rattle.meaning.specs.Meaning.{moved, needed}
 use Rattle.machine.specs.Machine.{Task, Held, Config, one_less, the_value, top, pop, pops, then, start, how_many, next_apply, next_call}
-use Rattle.machine.specs.Machine.Task.{to_eval, to_locate, to_pass, to_exec, to_arms, to_turn, to_take, to_receive, to_sign, to_operate, to_decide, to_index_lem, to_select, to_store, to_write, to_deliver, to_test, to_while, to_until, to_exit, to_close, to_apply, to_call, to_leave, to_leave_with}
+use Rattle.machine.specs.Machine.Task.{to_eval, to_locate, to_pass, to_exec, to_arms, to_turn, to_take, to_receive, to_sign, to_operate, to_decide, to_index, to_select, to_store, to_write, to_deliver, to_test, to_while, to_until, to_exit, to_close, to_apply, to_call, to_leave, to_leave_with}
 use Rattle.machine.specs.Moves.{After, AfterMove, KeptByMoves, move_eval, move_locate, move_pass, move_exec, move_arms, move_turn}
 use Rattle.machine.specs.Waiting.{expr_waits, actuals_waits, stmt_waits, parts_waits, procedure_waits, function_waits, more_by, less_by, reach, waits, Few}
 use Rattle.machine.specs.Theorems.{FewWait}
@@ -159,7 +159,7 @@ move_few n (to_operate at o ∷ k) h i = λ v. few_at n k _ _ (ap suc (length_ta
 move_few n (to_decide at j e ∷ k) h i = λ v. either_few (needed j (the_value (top h))) n _ _
     (few_at n (to_eval e ∷ k) _ _ (length_tail h.waiting) (omega arith) (omega arith))
     (few_at n k _ _ (ap suc (length_tail h.waiting)) (omega arith) (omega arith))
-move_few n (to_index_lem taken at w low high s ∷ k) h i = λ v. few_at n k _ _ (ap suc (length_tails h.waiting)) (omega arith) (omega arith)
+move_few n (to_index taken at w low high s ∷ k) h i = λ v. few_at n k _ _ (ap suc (length_tails h.waiting)) (omega arith) (omega arith)
 move_few n (to_select o ∷ k) h i = few_at n k _ _ (ap suc (length_tail h.waiting)) (omega arith) (omega arith)
 move_few n (to_store at ∷ k) h i = λ v. few_at n k _ _ (length_tails h.waiting) (omega arith) (omega arith)
 move_few n (to_write at a ∷ k) h i = λ v. few_at n (to_deliver a (the_value (top h)) ∷ k) _ _ (length_tail h.waiting) (omega arith) (omega arith)

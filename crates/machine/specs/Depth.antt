@@ -3,7 +3,7 @@ use Rattle.std.specs.Prelude.{◌≡◌, ℕ, suc, ◌+◌, ◌⊎◌, List, [],
 use Rattle.meaning.specs.Actions.{Action}
 use Rattle.meaning.specs.Actions.Action.{a_constant, a_take, a_read, an_index, a_sign, an_operator, a_decision, a_test, a_turn, a_store, a_write, an_entry, a_leave, a_leave_with}
 use Rattle.machine.specs.Machine.{Task, Config, Next, next}
-use Rattle.machine.specs.Machine.Task.{to_eval, to_locate, to_pass, to_exec, to_arms, to_turn, to_take, to_receive, to_sign, to_operate, to_decide, to_index_lem, to_select, to_store, to_write, to_deliver, to_test, to_while, to_until, to_exit, to_close, to_apply, to_call, to_leave, to_leave_with}
+use Rattle.machine.specs.Machine.Task.{to_eval, to_locate, to_pass, to_exec, to_arms, to_turn, to_take, to_receive, to_sign, to_operate, to_decide, to_index, to_select, to_store, to_write, to_deliver, to_test, to_while, to_until, to_exit, to_close, to_apply, to_call, to_leave, to_leave_with}
 use Rattle.machine.specs.Machine.Next.{none, acts, awaits, offers}
 use Rattle.machine.specs.Opened.{Covered}
 use Rattle.machine.specs.Present.{Present}
@@ -21,7 +21,7 @@ closer (to_receive a t) = 0
 closer (to_sign at g) = 0
 closer (to_operate at o) = 0
 closer (to_decide at j e) = 0
-closer (to_index_lem taken at w low high s) = 0
+closer (to_index taken at w low high s) = 0
 closer (to_select o) = 0
 closer (to_store at) = 0
 closer (to_write at a) = 1

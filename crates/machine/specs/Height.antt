@@ -11,7 +11,7 @@ use Rattle.program.specs.Trees.Procedure.{procedure}
 use Rattle.program.specs.Trees.Function.{function}
 use Rattle.meaning.specs.Meaning.{whole_body}
 use Rattle.machine.specs.Machine.{Task, Config}
-use Rattle.machine.specs.Machine.Task.{to_eval, to_locate, to_pass, to_exec, to_arms, to_turn, to_take, to_receive, to_sign, to_operate, to_decide, to_index_lem, to_select, to_store, to_write, to_deliver, to_test, to_while, to_until, to_exit, to_close, to_apply, to_call, to_leave, to_leave_with}
+use Rattle.machine.specs.Machine.Task.{to_eval, to_locate, to_pass, to_exec, to_arms, to_turn, to_take, to_receive, to_sign, to_operate, to_decide, to_index, to_select, to_store, to_write, to_deliver, to_test, to_while, to_until, to_exit, to_close, to_apply, to_call, to_leave, to_leave_with}
 
 -- how many places more than its own a part takes until it is over
 abbrev mutual
@@ -71,7 +71,7 @@ task_room (to_receive a t) = 0
 task_room (to_sign at g) = 0
 task_room (to_operate at o) = 0
 task_room (to_decide at j e) = expr_room e
-task_room (to_index_lem taken at w low high s) = 0
+task_room (to_index taken at w low high s) = 0
 task_room (to_select o) = 0
 task_room (to_store at) = 0
 task_room (to_write at a) = 0

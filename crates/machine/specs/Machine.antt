@@ -37,7 +37,7 @@ pub data Task : Type 0 where
   to_sign : At → Sign → Task
   to_operate : At → Operator → Task
   to_decide : At → Junction → Expr → Task
-  to_index_lem : (taken : Bool) → At → Writing → (low high : ℤ) → Shape → Task
+  to_index : (taken : Bool) → At → Writing → (low high : ℤ) → Shape → Task
   to_select : (offset : ℕ) → Task
   to_store : At → Task
   to_write : At → (address : ℕ) → Task
@@ -163,7 +163,7 @@ abbrev mutual
   pub next_locate : (taken : Bool) → Designator → List Task → (Held → Next) → Held → Next
   next_locate taken (whole n) k r h = r (push (ref (cell_of_name (formals h) n) (way (whole n))) h)
   next_locate taken (element at x w low high s e) k r h =
-      next_locate false x (to_eval e ∷ to_index_lem taken at w low high s ∷ k) (next_eval e (to_index_lem taken at w low high s ∷ k)) h
+      next_locate false x (to_eval e ∷ to_index taken at w low high s ∷ k) (next_eval e (to_index taken at w low high s ∷ k)) h
   next_locate taken (part at x w fs o) k r h = next_locate taken x (to_select o ∷ k) (next_select o r) h
 
   pub next_pass : Actuals → List Task → (Held → Next) → Held → Next
@@ -214,7 +214,7 @@ next_task (to_decide at j e) k r h =
     let v = the_value (top h) in
     acts at (cond (needed j v) (pop h).depth (suc (pop h).depth)) (a_decision j v)
     (λ _. cond (needed j v) (then (to_eval e ∷ k) (pop h)) (then k (push (val v) (pop h))))
-next_task (to_index_lem taken at w low high s) k r h =
+next_task (to_index taken at w low high s) k r h =
     acts at (cond taken (pop (pop h)).depth (pop h).depth) (an_index (the_cell (top (pop h))) w low high s (the_value (top h)))
     (λ c. then k (push (ref (unsigned_abs c) (the_way (top (pop h)))) (pop (pop h))))
 next_task (to_select o) k r h = next_select o r h

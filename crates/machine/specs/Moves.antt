@@ -11,7 +11,7 @@ use Rattle.meaning.specs.Actions.Item.{val, ref}
 use Rattle.meaning.specs.Actions.Action.{a_constant, a_read, a_turn}
 use Rattle.meaning.specs.Meaning.{cell_of_name, way}
 use Rattle.machine.specs.Machine.{Task, Held, Next, the_cell, the_way, top, push, pop, opens, closes, formals, then, how_many, next_of, Config, Now}
-use Rattle.machine.specs.Machine.Task.{to_eval, to_locate, to_pass, to_exec, to_arms, to_turn, to_take, to_receive, to_sign, to_operate, to_decide, to_index_lem, to_select, to_store, to_write, to_deliver, to_test, to_while, to_until, to_exit, to_close, to_apply, to_call, to_leave, to_leave_with}
+use Rattle.machine.specs.Machine.Task.{to_eval, to_locate, to_pass, to_exec, to_arms, to_turn, to_take, to_receive, to_sign, to_operate, to_decide, to_index, to_select, to_store, to_write, to_deliver, to_test, to_while, to_until, to_exit, to_close, to_apply, to_call, to_leave, to_leave_with}
 use Rattle.machine.specs.Machine.Now.{there, fallen}
 use Rattle.machine.specs.Machine.Next.{none, acts, awaits, offers}
 
@@ -30,7 +30,7 @@ move_eval (apply at p xs) k h = moves (to_pass xs ∷ to_apply at p (how_many xs
 
 abbrev pub move_locate : (taken : Bool) → Designator → List Task → Held → Move
 move_locate taken (whole n) k h = moves k (push (ref (cell_of_name (formals h) n) (way (whole n))) h)
-move_locate taken (element at x w low high s e) k h = moves (to_locate false x ∷ to_eval e ∷ to_index_lem taken at w low high s ∷ k) h
+move_locate taken (element at x w low high s e) k h = moves (to_locate false x ∷ to_eval e ∷ to_index taken at w low high s ∷ k) h
 move_locate taken (part at x w fs o) k h = moves (to_locate taken x ∷ to_select o ∷ k) h
 
 abbrev pub move_pass : Actuals → List Task → Held → Move
@@ -70,7 +70,7 @@ move (to_receive a t ∷ k) h = rests (next_of (to_receive a t ∷ k) h)
 move (to_sign at g ∷ k) h = rests (next_of (to_sign at g ∷ k) h)
 move (to_operate at o ∷ k) h = rests (next_of (to_operate at o ∷ k) h)
 move (to_decide at j e ∷ k) h = rests (next_of (to_decide at j e ∷ k) h)
-move (to_index_lem taken at w low high s ∷ k) h = rests (next_of (to_index_lem taken at w low high s ∷ k) h)
+move (to_index taken at w low high s ∷ k) h = rests (next_of (to_index taken at w low high s ∷ k) h)
 move (to_select o ∷ k) h = moves k (push (ref (the_cell (top h) + o) (the_way (top h))) (pop h))
 move (to_store at ∷ k) h = rests (next_of (to_store at ∷ k) h)
 move (to_write at a ∷ k) h = rests (next_of (to_write at a ∷ k) h)
@@ -138,7 +138,7 @@ task_weight (to_receive a t) = 0
 task_weight (to_sign at g) = 0
 task_weight (to_operate at o) = 0
 task_weight (to_decide at j e) = 0
-task_weight (to_index_lem taken at w low high s) = 0
+task_weight (to_index taken at w low high s) = 0
 task_weight (to_select o) = 1
 task_weight (to_store at) = 0
 task_weight (to_write at a) = 0

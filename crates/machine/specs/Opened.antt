@@ -1,7 +1,7 @@
 -- Each open call has its leave among the tasks: so no more calls are open than there are tasks.
 use Rattle.std.specs.Prelude.{◌≡◌, ℕ, ◌+◌, List, [], ◌∷◌, length}
 use Rattle.machine.specs.Machine.{Task, Config}
-use Rattle.machine.specs.Machine.Task.{to_eval, to_locate, to_pass, to_exec, to_arms, to_turn, to_take, to_receive, to_sign, to_operate, to_decide, to_index_lem, to_select, to_store, to_write, to_deliver, to_test, to_while, to_until, to_exit, to_close, to_apply, to_call, to_leave, to_leave_with}
+use Rattle.machine.specs.Machine.Task.{to_eval, to_locate, to_pass, to_exec, to_arms, to_turn, to_take, to_receive, to_sign, to_operate, to_decide, to_index, to_select, to_store, to_write, to_deliver, to_test, to_while, to_until, to_exit, to_close, to_apply, to_call, to_leave, to_leave_with}
 
 abbrev pub leave_in : Task → ℕ
 leave_in (to_eval e) = 0
@@ -15,7 +15,7 @@ leave_in (to_receive a t) = 0
 leave_in (to_sign at g) = 0
 leave_in (to_operate at o) = 0
 leave_in (to_decide at j e) = 0
-leave_in (to_index_lem taken at w low high s) = 0
+leave_in (to_index taken at w low high s) = 0
 leave_in (to_select o) = 0
 leave_in (to_store at) = 0
 leave_in (to_write at a) = 0

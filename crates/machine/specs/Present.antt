@@ -1,7 +1,7 @@
 -- What a task takes off the top of what waits is there: no task ever looks for a value or a variable in vain.
 use Rattle.std.specs.Prelude.{ℕ, ◌≤◌, List, [], ◌∷◌, length}
 use Rattle.machine.specs.Machine.{Task, Config}
-use Rattle.machine.specs.Machine.Task.{to_eval, to_locate, to_pass, to_exec, to_arms, to_turn, to_take, to_receive, to_sign, to_operate, to_decide, to_index_lem, to_select, to_store, to_write, to_deliver, to_test, to_while, to_until, to_exit, to_close, to_apply, to_call, to_leave, to_leave_with}
+use Rattle.machine.specs.Machine.Task.{to_eval, to_locate, to_pass, to_exec, to_arms, to_turn, to_take, to_receive, to_sign, to_operate, to_decide, to_index, to_select, to_store, to_write, to_deliver, to_test, to_while, to_until, to_exit, to_close, to_apply, to_call, to_leave, to_leave_with}
 use Rattle.machine.specs.Waiting.{task_leaves}
 
 -- how many a task takes
@@ -17,7 +17,7 @@ task_takes (to_receive a t) = 0
 task_takes (to_sign at g) = 1
 task_takes (to_operate at o) = 2
 task_takes (to_decide at j e) = 1
-task_takes (to_index_lem taken at w low high s) = 2
+task_takes (to_index taken at w low high s) = 2
 task_takes (to_select o) = 1
 task_takes (to_store at) = 2
 task_takes (to_write at a) = 1

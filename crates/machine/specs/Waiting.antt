@@ -12,7 +12,7 @@ use Rattle.program.specs.Trees.Procedure.{procedure}
 use Rattle.program.specs.Trees.Function.{function}
 use Rattle.meaning.specs.Meaning.{whole_body}
 use Rattle.machine.specs.Machine.{Task, Config, one_less, how_many}
-use Rattle.machine.specs.Machine.Task.{to_eval, to_locate, to_pass, to_exec, to_arms, to_turn, to_take, to_receive, to_sign, to_operate, to_decide, to_index_lem, to_select, to_store, to_write, to_deliver, to_test, to_while, to_until, to_exit, to_close, to_apply, to_call, to_leave, to_leave_with}
+use Rattle.machine.specs.Machine.Task.{to_eval, to_locate, to_pass, to_exec, to_arms, to_turn, to_take, to_receive, to_sign, to_operate, to_decide, to_index, to_select, to_store, to_write, to_deliver, to_test, to_while, to_until, to_exit, to_close, to_apply, to_call, to_leave, to_leave_with}
 
 -- how many more than before wait at most while a part is done
 abbrev mutual
@@ -82,7 +82,7 @@ task_waits (to_receive a t) w = suc w
 task_waits (to_sign at g) w = suc (one_less w)
 task_waits (to_operate at o) w = suc (one_less (one_less w))
 task_waits (to_decide at j e) w = one_less w + max 1 (expr_waits e)
-task_waits (to_index_lem taken at u low high s) w = suc (one_less (one_less w))
+task_waits (to_index taken at u low high s) w = suc (one_less (one_less w))
 task_waits (to_select o) w = suc (one_less w)
 task_waits (to_store at) w = one_less (one_less w)
 task_waits (to_write at a) w = one_less w
@@ -110,7 +110,7 @@ task_leaves (to_receive a t) w = suc w
 task_leaves (to_sign at g) w = suc (one_less w)
 task_leaves (to_operate at o) w = suc (one_less (one_less w))
 task_leaves (to_decide at j e) w = suc (one_less w)
-task_leaves (to_index_lem taken at u low high s) w = suc (one_less (one_less w))
+task_leaves (to_index taken at u low high s) w = suc (one_less (one_less w))
 task_leaves (to_select o) w = suc (one_less w)
 task_leaves (to_store at) w = one_less (one_less w)
 task_leaves (to_write at a) w = one_less w
