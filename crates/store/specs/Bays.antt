@@ -1,7 +1,7 @@
 -- What a bay means, over the meaning of the store below, and why the laws hold of it.
 use Rattle.std.specs.Prelude.{◌≡◌, ℕ, ◌+◌, ◌-◌, ◌<◌, min, List, length, drop, ℤ, refl}
 use Rattle.std.proofs.Common.{◌∙◌, arith, length-take, length-drop}
-use Rattle.std.specs.List.{AllByRecursion as All}
+use Rattle.std.specs.List.{AllByRecursion}
 use Rattle.std.proofs.ByRecursion.{All-take, All-drop}
 use Rattle.store.specs.declared.Bay.{Bay}
 use Rattle.store.specs.Cells.{Cell, window, Around}
@@ -17,7 +17,7 @@ BayBeside cells beside b c = (b.first ≡ c.first) × (b.len ≡ c.len) × Aroun
 window_few : (first len : ℕ) (xs : List ℤ) → length xs < 65536 → length (window first len xs) < 65536
 window_few first len xs h = simp (length-take, length-drop) (omega arith)
 
-window_narrow : (first len : ℕ) (xs : List ℤ) → All Cell xs → All Cell (window first len xs)
+window_narrow : (first len : ℕ) (xs : List ℤ) → AllByRecursion Cell xs → AllByRecursion Cell (window first len xs)
 window_narrow first len xs h = All-take Cell len (drop first xs) (All-drop Cell first xs h)
 
 around_along : (f k f' k' : ℕ) (xs ys zs : List ℤ) → f ≡ f' → k ≡ k' → Around f k xs ys → Around f' k' ys zs → Around f k xs zs

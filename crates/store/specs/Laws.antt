@@ -1,12 +1,12 @@
 -- What holds of every store.
 use Rattle.std.specs.Prelude.{◌≡◌, ℕ, ◌<◌, List, length, ℤ, Ok, ◌≢◌, slice_set}
-use Rattle.std.specs.List.{AllByRecursion as All}
+use Rattle.std.specs.List.{AllByRecursion}
 use Rattle.store.specs.Cells.{Cell, cell_at}
 
 -- of its cells: they are fewer than 65,536, and each holds 32 bits
 pub record Bounds {S : Type 0} (cells : S → List ℤ) : Type 0 where
   pub few : (s : S) → length (cells s) < 65536
-  pub narrow : (s : S) → All Cell (cells s)
+  pub narrow : (s : S) → AllByRecursion Cell (cells s)
 
 -- of all that is no cell: what stays the same over two changes stays the same over both
 pub record Steady {S : Type 0} (beside : S → S → Type 0) : Type 0 where

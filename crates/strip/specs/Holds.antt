@@ -2,7 +2,7 @@
 use Rattle.std.proofs.Common.{◌∙◌, arith, to_z}
 use Rattle.std.specs.Prelude.{ℕ, ◌<◌, List, [], ◌∷◌, length}
 use Rattle.std.specs.Int.{w32}
-use Rattle.std.specs.List.{AllByRecursion as All, range_with_len}
+use Rattle.std.specs.List.{AllByRecursion, range_with_len}
 use Rattle.std.proofs.lemmas.List.FromFn.{length-map-range_with_len}
 use Rattle.std.proofs.ByRecursion.{All-map}
 use Rattle.std.proofs.lemmas.Int.{ints}
@@ -16,11 +16,11 @@ strip_few bs = omega (arith, length-map-range_with_len (cell_of bs) 0 (strip_cou
 bits_narrow : (n : ℕ) → Cell (to_z w32 n)
 bits_narrow n = (omega (arith, ints), omega (arith, ints))
 
-all_of : {A : Type 0} (P : A → Type 0) → ((a : A) → P a) → (xs : List A) → All P xs
+all_of : {A : Type 0} (P : A → Type 0) → ((a : A) → P a) → (xs : List A) → AllByRecursion P xs
 all_of P p [] = tt
 all_of P p (x ∷ xs) = (p x, all_of P p xs)
 
-pub strip_narrow : (bs : List ℕ) → All Cell (strip_cells bs)
+pub strip_narrow : (bs : List ℕ) → AllByRecursion Cell (strip_cells bs)
 strip_narrow bs = All-map Cell (cell_of bs) (range_with_len 0 (strip_count bs)) (all_of (λ n. Cell (cell_of bs n)) (λ n. bits_narrow _) (range_with_len 0 (strip_count bs)))
 
 pub leftover_along : (xs ys zs : List ℕ) → Leftover xs ys → Leftover ys zs → Leftover xs zs
