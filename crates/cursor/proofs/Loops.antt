@@ -1,13 +1,11 @@
 -- Nothing is read twice, and the turns of a repetition one by one. Assumes nothing.
 use Rattle.std.proofs.Common.{◌≡◌, ℕ, zero, suc, ◌<◌, ◌≤◌, Bool, true, false, cond, List, [], ◌∷◌, ◌++◌, map, length, Some, None, Option, sym, refl, ap, ◌∙◌, subst, arith}
-use Rattle.fault.specs.declared.Cause.{Cause}
-use Rattle.fault.specs.declared.Cause.TheVariants.{Syntax, TooDeep}
 use Rattle.symbol.specs.Symbols.{Sym, PlacedSym, ending}
 use Rattle.symbol.specs.declared.mark.Mark.{Mark}
 use Rattle.symbol.specs.declared.mark.Mark.TheVariants.{Comma}
 use Rattle.symbol.specs.declared.word.Word.{Word}
 use Rattle.cursor.specs.Kinds.{sym_is_mark, sym_is_word}
-use Rattle.cursor.specs.Reading.{Out, Reads, got, fault, after, mapped, head, tail, expect_mark, expect_word, Lex, name_in, number_in, lexeme_at, ident_of, number_of, inner, nested, turn, many, loop, behind, separator, further_of, list_of, idents_of, turned}
+use Rattle.cursor.specs.Reading.{Out, Reads, got, fault, after, mapped, head, tail, expect_mark, expect_word, name_in, number_in, lexeme_at, ident_of, number_of, inner, nested, turn, many, loop, behind, separator, further_of, list_of, idents_of, turned}
 
 -- ---- answers put together
 

@@ -1,11 +1,10 @@
 -- The first symbol and the rest of a slice, as its list of symbols has them. Assumes nothing.
-use Rattle.std.proofs.Common.{◌≡◌, ℕ, ◌-◌, ◌<◌, List, [], ◌∷◌, map, length, get_or, take, drop, refl, ap, arith}
+use Rattle.std.proofs.Common.{◌≡◌, ◌-◌, ◌<◌, List, [], ◌∷◌, map, length, get_or, take, drop, refl, ap, arith}
 use Rattle.std.proofs.lemmas.List.{take_rest}
 use Rattle.fault.specs.declared.Cause.{Cause}
 use Rattle.fault.specs.Numbers.{fault_at}
-use Rattle.symbol.specs.Symbols.{PlacedSym, placed_of, ending}
+use Rattle.symbol.specs.Symbols.{placed_of, ending}
 use Rattle.symbol.specs.declared.Placed.{Placed}
-use Rattle.cursor.specs.declared.Halt.{Halt}
 use Rattle.cursor.specs.declared.Halt.TheVariants as h
 use Rattle.cursor.specs.Reading.{got, fault, head, tail, expect_end}
 use Rattle.fault.specs.declared.Cause.TheVariants.{Syntax}

@@ -1,5 +1,5 @@
 -- From a callee's answer to the caller's. Assumes nothing.
-use Rattle.std.proofs.Common.{◌≡◌, ℕ, zero, suc, Bool, true, false, cond, List, [], ◌∷◌, ◌++◌, map, IsErrAnd, Some, None, Ok, Err, Option, Result, sym, refl, ap, ◌∙◌, subst}
+use Rattle.std.proofs.Common.{◌≡◌, ℕ, suc, true, false, List, [], ◌∷◌, IsErrAnd, Some, None, Ok, Err, Result, sym, refl, ap, ◌∙◌, subst}
 use Rattle.std.proofs.lemmas.Result.{err_from_is_err_and}
 use Rattle.fault.specs.declared.Cause.{Cause}
 use Rattle.fault.specs.declared.Cause.TheVariants.{Syntax, TooDeep}
@@ -10,7 +10,7 @@ use Rattle.symbol.specs.declared.word.Word.{Word}
 use Rattle.cursor.specs.declared.Halt.{Halt}
 use Rattle.cursor.specs.declared.Halt.TheVariants as h
 use Rattle.cursor.specs.Kinds.{sym_is_mark, sym_is_word}
-use Rattle.cursor.specs.Reading.{Out, Reads, got, fault, after, mapped, head, tail, expect_mark, expect_word, Lex, name_in, number_in, ident_of, number_of, inner, nested, further_of, list_of, turned}
+use Rattle.cursor.specs.Reading.{Out, Reads, got, fault, after, mapped, head, tail, expect_mark, expect_word, name_in, number_in, ident_of, number_of, inner, nested, further_of, list_of, turned}
 use Rattle.cursor.proofs.Loops.{joined_is}
 use Rattle.cursor.specs.Promises.{halt_at, Answers, Follows, Opens}
 

@@ -1,5 +1,5 @@
 -- How a grammar is read: what a reader answers, and how readers are put together. A reader goes over the list of the unread symbols.
-use Rattle.std.specs.Prelude.{ℕ, zero, suc, Bool, cond, List, [], ◌∷◌, length, Some, None, Option}
+use Rattle.std.specs.Prelude.{ℕ, zero, suc, cond, List, [], ◌∷◌, length, Some, None, Option}
 use Rattle.fault.specs.declared.Cause.{Cause}
 use Rattle.fault.specs.declared.Cause.TheVariants.{Syntax, TooDeep}
 use Rattle.symbol.specs.Symbols.{Sym, name, number, character, word, mark, ending, PlacedSym}

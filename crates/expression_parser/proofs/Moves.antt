@@ -1,22 +1,22 @@
 -- What the readers of expressions answer, step by step, in the forms that the code has. Assumes nothing.
-use Rattle.std.proofs.Common.{◌≡◌, ℕ, zero, suc, ◌<◌, Bool, true, false, List, [], ◌∷◌, length, Some, None, Option, sym, refl, ap, ◌∙◌, subst}
+use Rattle.std.proofs.Common.{◌≡◌, ℕ, zero, suc, ◌<◌, true, false, List, [], ◌∷◌, length, Some, None, Option, sym, refl, ap, ◌∙◌}
 use Rattle.fault.specs.declared.Cause.TheVariants.{Syntax, TooDeep}
 use Rattle.symbol.specs.Symbols.{Sym, PlacedSym}
 use Rattle.symbol.specs.declared.mark.Mark.{Mark}
 use Rattle.symbol.specs.declared.mark.Mark.TheVariants.{LeftParen, RightParen, RightBracket, LeftBracket, Dot, Comma}
 use Rattle.cursor.specs.Kinds.{sym_is_mark}
-use Rattle.cursor.specs.Reading.{Out, Reads, got, fault, after, mapped, head, tail, Lex, ident_of, inner, nested, behind, paired, list_of, further_of, expect_mark, turned}
-use Rattle.cursor.proofs.Loops.{Within, Reading, All, Turns, all_inner, after_after, mapped_mapped, mapped_turn, mapped_stop, turn_less, turn_again, behind_turn, behind_stop, behind_less, behind_item}
-use Rattle.cursor.proofs.Steps.{onward, nested_none, nested_some, list_turned}
+use Rattle.cursor.specs.Reading.{Out, Reads, got, fault, after, mapped, head, tail, Lex, ident_of, inner, paired, list_of, expect_mark, turned}
+use Rattle.cursor.proofs.Loops.{Reading, Turns, all_inner, after_after, mapped_turn, mapped_stop, turn_less, turn_again, behind_turn, behind_stop, behind_less}
+use Rattle.cursor.proofs.Steps.{onward, nested_none, nested_some}
 use Rattle.expression_tree.specs.declared.Relation.{Relation}
 use Rattle.expression_tree.specs.declared.Sign.{Sign}
 use Rattle.expression_tree.specs.declared.Adding.{Adding}
 use Rattle.expression_tree.specs.declared.Multiplying.{Multiplying}
 use Rattle.expression_tree.specs.Trees.{Expr, Simp, Ter, Fac, Sel, to_field, to_index}
 use Rattle.expression_tree.specs.Trees as tree
-use Rattle.expression_parser.specs.Classes.{relation, sign, adding, multiplying, Start, a_number, a_character, a_name, an_opening, a_not, other, start, Selecting, by_field, by_index, selecting}
-use Rattle.expression_parser.specs.Readers.{unsigned, multipliers_of, term_of, addends_of, signed_of, simple_of, related_of, expression_of, enclosed_of, selector_of, selectors_of, named_of, factor_at, factor_of, factor}
-use Rattle.expression_parser.proofs.Within.{factor_within, term_within, expression_within, selector_turns}
+use Rattle.expression_parser.specs.Classes.{relation, sign, adding, multiplying, Start, a_number, a_character, a_name, an_opening, a_not, other, start, by_field, by_index, selecting}
+use Rattle.expression_parser.specs.Readers.{unsigned, multipliers_of, term_of, addends_of, simple_of, related_of, expression_of, enclosed_of, selector_of, selectors_of, named_of, factor_at, factor_of, factor}
+use Rattle.expression_parser.proofs.Within.{factor_within, term_within, selector_turns}
 
 -- ---- expression, simple, term
 

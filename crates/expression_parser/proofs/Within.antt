@@ -1,10 +1,10 @@
 -- No reader of expressions reads anything twice. Assumes nothing.
-use Rattle.std.proofs.Common.{◌≡◌, ℕ, zero, suc, ◌≤◌, Bool, true, false, cond, List, [], ◌∷◌, length, Some, None, Option, refl, arith}
-use Rattle.symbol.specs.Symbols.{Sym, PlacedSym}
+use Rattle.std.proofs.Common.{ℕ, zero, suc, ◌≤◌, List, length, Some, None, Option, refl, arith}
+use Rattle.symbol.specs.Symbols.{PlacedSym}
 use Rattle.symbol.specs.declared.mark.Mark.{Mark}
 use Rattle.symbol.specs.declared.mark.Mark.TheVariants.{LeftParen, RightParen, RightBracket, Comma}
 use Rattle.cursor.specs.Kinds.{sym_is_mark}
-use Rattle.cursor.specs.Reading.{Out, Reads, got, fault, after, mapped, head, tail, Lex, ident_of, inner, behind, paired, list_of, expect_mark}
+use Rattle.cursor.specs.Reading.{Reads, after, mapped, head, tail, Lex, ident_of, behind, paired, list_of, expect_mark}
 use Rattle.cursor.proofs.Loops.{Within, Reading, All, Turns, within_after, within_more, within_mapped, within_tail, within_cond, length_tail, mark_within, ident_within, nested_within, behind_turns, loop_within, list_within}
 use Rattle.expression_tree.specs.declared.Relation.{Relation}
 use Rattle.expression_tree.specs.declared.Sign.{Sign}

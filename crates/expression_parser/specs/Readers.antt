@@ -1,11 +1,11 @@
 -- The readers of expressions, one for each rule of the grammar.
-use Rattle.std.specs.Prelude.{ℕ, zero, suc, Bool, cond, List, [], ◌∷◌, Some, None, Option}
+use Rattle.std.specs.Prelude.{ℕ, zero, suc, cond, List, Some, None, Option}
 use Rattle.fault.specs.declared.Cause.TheVariants.{Syntax}
-use Rattle.symbol.specs.Symbols.{Sym, PlacedSym}
+use Rattle.symbol.specs.Symbols.{PlacedSym}
 use Rattle.symbol.specs.declared.mark.Mark.{Mark}
 use Rattle.symbol.specs.declared.mark.Mark.TheVariants.{LeftParen, RightParen, RightBracket, Comma}
 use Rattle.cursor.specs.Kinds.{sym_is_mark}
-use Rattle.cursor.specs.Reading.{Out, Reads, got, fault, after, mapped, head, tail, expect_mark, Lex, ident_of, nested, loop, behind, paired, list_of}
+use Rattle.cursor.specs.Reading.{Reads, got, fault, after, mapped, head, tail, expect_mark, Lex, ident_of, nested, loop, behind, paired, list_of}
 use Rattle.expression_tree.specs.declared.Relation.{Relation}
 use Rattle.expression_tree.specs.declared.Sign.{Sign}
 use Rattle.expression_tree.specs.declared.Adding.{Adding}

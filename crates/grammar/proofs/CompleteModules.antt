@@ -25,8 +25,8 @@ use Rattle.syntax.specs.Modules.{declaration_kind, names_of, module_word_of, hea
 use Rattle.syntax.specs.Modules as reader
 use Rattle.syntax.specs.Program.{deepest, program_of}
 use Rattle.syntax.proofs.ProgramsWithin.{constant_turns, type_turns, variable_turns, part_turns, section_within, declaration_turns, module_falls}
-use Rattle.grammar.specs.Phrases.{◌at◌, ◌then◌, mark, word, ident, repeats, repeated, idents}
-use Rattle.grammar.specs.Modules.{ConstantR, TypeR, VariablesR, PartR, MarkingR, SectionR, FormalsR, ResultR, BodyR, ProcR, NamesR, HeadR, name_of, ModulR, DeclR, DeclsR, Sentence}
+use Rattle.grammar.specs.Phrases.{◌at◌, ◌then◌, mark, ident, repeats, repeated, idents}
+use Rattle.grammar.specs.Modules.{ConstantR, TypeR, VariablesR, PartR, MarkingR, SectionR, FormalsR, ResultR, BodyR, ProcR, NamesR, HeadR, ModulR, DeclR, DeclsR, Sentence}
 use Rattle.grammar.specs.Stops.{StopB}
 use Rattle.grammar.proofs.Lists.{stmt_list, stmts_back, decl_list, decls_back}
 use Rattle.grammar.proofs.Steps.{on, first, first_at, same_first, left_of, word_same, mark_read, word_read, ident_read, number_read, idents_read, further_read, separated_read, repeated_read, stops, turns}

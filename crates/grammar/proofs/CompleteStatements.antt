@@ -15,7 +15,7 @@ use Rattle.syntax.specs.StatementTrees.{Stmt, Stmts, Elsfs, Exts, stmts, elsifs,
 use Rattle.syntax.specs.StatementTrees as tree
 use Rattle.syntax.specs.Statements.{an_actual, a_target, following, named_at, named_of, block_of, optional_of, begins, elsif_of, elsifs_of, exit_of, exits_of, if_of, while_of, repeat_of, loop_of, Kind, of_nothing, kind, statement_at, statement_of, statement, level}
 use Rattle.syntax.proofs.StatementsWithin.{elsif_turns, exit_turns, statement_within}
-use Rattle.grammar.specs.Phrases.{◌at◌, mark, word}
+use Rattle.grammar.specs.Phrases.{◌at◌}
 use Rattle.grammar.specs.Statements.{StmtR, BlockR, MoreR, OptionalR, ElsifsR, ExitsR}
 use Rattle.grammar.specs.Stops.{StopE, StopA, StopB}
 use Rattle.grammar.proofs.Lists.{stmt_list, stmts_back, elsif_list, elsifs_back, exit_list, exits_back, exprs_back, sels_back}

@@ -1,7 +1,7 @@
 -- What the scanner passes over is blanks and whole comments. Assumes nothing.
 use Rattle.std.proofs.Common.{◌≡◌, ℕ, zero, suc, ◌+◌, ◌-◌, ◌<◌, ◌≤◌, Bool, true, false, cond, eqb, ◌⊎◌, List, [], ◌∷◌, length, get_or, take, Ok, Err, sym, refl, ap, ◌∙◌, subst, inl, inr, add-one, arith}
 use Rattle.std.proofs.lemmas.Bool.Decides.{nat_tests}
-use Rattle.fault.specs.declared.Cause.TheVariants.{NoSymbol, TooDeep}
+use Rattle.fault.specs.declared.Cause.TheVariants.{NoSymbol}
 use Rattle.fault.specs.Numbers.{fault_at}
 use Rattle.scanner.specs.declared.gap.Move.{Move}
 use Rattle.scanner.specs.declared.gap.Move.TheVariants as to

@@ -1,11 +1,11 @@
 -- Every front that the scanner finds is a symbol, the longest, and stands apart. Assumes nothing.
-use Rattle.std.proofs.Common.{◌≡◌, ℕ, ◌-◌, ◌<◌, ◌≤◌, Bool, true, false, cond, not, ◌&&◌, eqb, leb, List, length, get_or, take, is_some, Some, None, Option, sym, refl, ap, ◌∙◌, subst, add-zero, arith, eqb-true}
+use Rattle.std.proofs.Common.{◌≡◌, ℕ, ◌<◌, ◌≤◌, Bool, true, false, cond, not, ◌&&◌, eqb, leb, List, length, get_or, take, is_some, Some, None, Option, sym, refl, ap, ◌∙◌, subst, add-zero, arith, eqb-true}
 use Rattle.std.proofs.lemmas.List.{length-take-le, get_or-drop, get_or_past}
 use Rattle.std.proofs.lemmas.List.Sums.{prefix_len-le-length}
 use Rattle.std.proofs.lemmas.Bool.Decides.{nat_tests}
 use Rattle.std.specs.Char.{is_ascii_alphanumeric, is_ascii_alphabetic, is_ascii_digit}
 use Rattle.symbol.specs.declared.word.Word.{Word}
-use Rattle.symbol.specs.Symbols.{Sym, name, number, character, word}
+use Rattle.symbol.specs.Symbols.{Sym, number, character}
 use Rattle.symbol.specs.Words.{reserved}
 use Rattle.symbol.specs.Values.{number_value_of, character_value_of}
 use Rattle.symbol.proofs.Reserved.{reserves}

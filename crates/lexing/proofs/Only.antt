@@ -14,7 +14,6 @@ use Rattle.scanner.specs.Gaps.{move_of, gap}
 use Rattle.scanner.specs.Fronts.{begins}
 use Rattle.scanner.specs.Scan.{step_to, scan}
 use Rattle.scanner.proofs.Scans.{scan_end, scan_some}
-use Rattle.lexing.specs.declared.Stop.{Stop}
 use Rattle.lexing.specs.declared.Stop.TheVariants as stopped
 use Rattle.lexing.specs.Reading.{Reading, sym_is_ending, before, follow, read_from, symbols_of}
 use Rattle.lexing.specs.Spelling.{letters_or_digits, Spells, Apart, Gap}

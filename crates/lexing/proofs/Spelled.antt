@@ -1,12 +1,12 @@
 -- What the scanner takes for a symbol is one, is the longest that begins there, and stands apart. Assumes nothing.
-use Rattle.std.proofs.Common.{◌≡◌, ℕ, zero, suc, ◌-◌, ◌<◌, ◌≤◌, Bool, true, false, cond, eqb, List, [], ◌∷◌, length, get_or, take, drop, is_some, Some, None, Option, sym, refl, ap, ◌∙◌, subst, arith}
+use Rattle.std.proofs.Common.{◌≡◌, ℕ, zero, suc, ◌<◌, ◌≤◌, Bool, true, false, cond, eqb, List, [], ◌∷◌, length, get_or, take, drop, is_some, Some, None, Option, sym, refl, ap, ◌∙◌, subst, arith}
 use Rattle.std.proofs.lemmas.List.{length-take-le, get_or-take}
 use Rattle.std.proofs.lemmas.Bool.Decides.{nat_tests}
 use Rattle.std.specs.Char.{is_ascii_alphanumeric}
 use Rattle.symbol.specs.Symbols.{Sym, name, number, character, word, mark, ending}
 use Rattle.symbol.specs.Words.{mark_spelling}
 use Rattle.symbol.specs.Values.{number_value_of, character_value_of, ordinal_value_of, quoted_value_of, plainly_quoted, quoted_quote}
-use Rattle.scanner.specs.Fronts.{run, quotes, begins}
+use Rattle.scanner.specs.Fronts.{run, quotes}
 use Rattle.lexing.specs.Reading.{sym_is_ending}
 use Rattle.lexing.specs.Spelling.{letters_or_digits, Spells, Longest, Apart}
 use Rattle.lexing.proofs.Runs.{both, run_holds, number_alnum, ordinal_alnum, word_alnum, mark_first}

@@ -1,5 +1,5 @@
 -- One turn of reading, as the code makes it. Assumes nothing.
-use Rattle.std.proofs.Common.{◌≡◌, ℕ, ◌+◌, ◌-◌, ◌<◌, ◌≤◌, Bool, true, false, ◌⊎◌, List, [], ◌∷◌, ◌++◌, map, length, Ok, Err, sym, refl, ap, ◌∙◌, inl, inr, arith}
+use Rattle.std.proofs.Common.{◌≡◌, ℕ, ◌+◌, ◌<◌, ◌≤◌, Bool, true, false, ◌⊎◌, List, [], ◌∷◌, ◌++◌, map, length, Ok, Err, sym, refl, ap, ◌∙◌, inl, inr, arith}
 use Rattle.fault.specs.declared.Fault.{Fault}
 use Rattle.symbol.specs.declared.Placed.{Placed}
 use Rattle.symbol.specs.declared.Symbol.{Symbol}

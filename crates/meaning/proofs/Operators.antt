@@ -1,6 +1,6 @@
 -- What operators and signs give fits its type, and they trap exactly where they have a cause.
 use Prim.{Unit, tt, ⊥, absurd, ¬◌}
-use Rattle.std.proofs.Common.{◌≡◌, ℕ, zero, suc, ◌-◌, ◌/◌, ◌<◌, ◌≤◌, Bool, true, false, cond, not, T, leb, ℤ, pos, negsuc, ◌+ℤ◌, ◌-ℤ◌, ◌*ℤ◌, neg_ℤ, nat_abs, ◌<ℤ◌, Ok, Err, Result, sym, refl, ap, subst, mod-lt, div-le_self, arith, le→leb, leb→le}
+use Rattle.std.proofs.Common.{◌≡◌, ℕ, zero, suc, ◌/◌, ◌<◌, ◌≤◌, Bool, true, false, cond, not, T, leb, ℤ, pos, negsuc, ◌+ℤ◌, ◌-ℤ◌, ◌*ℤ◌, neg_ℤ, nat_abs, ◌<ℤ◌, Ok, Err, Result, sym, refl, ap, subst, mod-lt, div-le_self, arith, le→leb, leb→le}
 use borrow.Author.Differences.{ints}
 use lib.Signed.{quot_z, lt_z_yes}
 use lib.Dec.{nleb→lt}

@@ -1,6 +1,6 @@
 -- From lawful actions: the cells stay typed, and an action traps exactly where it has a cause.
 use Prim.{tt, absurd}
-use Rattle.std.proofs.Common.{◌≡◌, ℕ, zero, suc, ◌+◌, ◌<◌, ◌≤◌, Bool, true, false, not, T, leb, ◌⊎◌, List, [], ◌∷◌, length, get_or, drop, set, replicate, ℤ, pos, ◌+ℤ◌, ◌-ℤ◌, ◌*ℤ◌, Ok, Err, Result, sym, refl, ap, ◌∙◌, subst, inl, inr, arith, leb→le, get_or-take}
+use Rattle.std.proofs.Common.{◌≡◌, ℕ, zero, suc, ◌<◌, ◌≤◌, Bool, true, false, not, T, leb, ◌⊎◌, List, [], ◌∷◌, length, get_or, drop, set, replicate, ℤ, pos, ◌+ℤ◌, ◌-ℤ◌, ◌*ℤ◌, Ok, Err, Result, sym, refl, ap, ◌∙◌, subst, inl, inr, arith, leb→le, get_or-take}
 use lib.ListN.{length-replicate, get_or-replicate, get_or-append}
 use lib.Dec.{leb-zero, nleb→lt}
 use Rattle.fault.specs.declared.Trap.{Trap}

@@ -1,5 +1,5 @@
 -- An action: what is done, where, and what comes of it.
-use Rattle.std.specs.Prelude.{ℕ, zero, suc, ◌+◌, Bool, true, false, cond, not, ◌&&◌, List, [], ◌∷◌, ◌++◌, length, drop, replicate, ℤ, pos, Ok, Err, Result, int_le, int_lt, nat_le, slice_index_or, slice_set}
+use Rattle.std.specs.Prelude.{ℕ, zero, suc, Bool, true, false, cond, not, ◌&&◌, List, [], ◌∷◌, ◌++◌, length, drop, replicate, ℤ, pos, Ok, Err, Result, int_le, int_lt, nat_le, slice_index_or, slice_set}
 use Rattle.fault.specs.declared.Trap.{Trap}
 use Rattle.fault.specs.declared.Trap.TheVariants.{Index, Depth, Foreign}
 use Rattle.integer.specs.Integers.{sum, difference, product, negated, truncated, quotient, remainder}
@@ -114,7 +114,7 @@ abbrev pub deepest : ℕ
 deepest = 400
 
 -- of several traps the one with the smallest number
-abbrev pub first_trap : Result ℤ Trap → (deep-enough found : Bool) → Result ℤ Trap
+abbrev pub first_trap : Result ℤ Trap → (deep_enough found : Bool) → Result ℤ Trap
 first_trap (Err t) d f = Err t
 first_trap (Ok v) false f = Err Depth
 first_trap (Ok v) true false = Err Foreign

@@ -1,7 +1,7 @@
 // The symbol that bytes begin with.
 ghost use Rattle.std.specs.Prelude.{◌≡◌, ◌<◌, ◌≤◌, length, Some};
 ghost use Rattle.std.specs.Option.{option_map};
-ghost use Rattle.symbol.specs.Symbols.{mark as markSym};
+ghost use Rattle.symbol.specs.Symbols.{mark as mark_sym};
 ghost use Rattle.scanner.specs.Fronts.{begun_of, run, begins_word, begins_digit, begins_quote, begins_mark, begins};
 
 use crate::gap::char_at;
@@ -86,7 +86,7 @@ fn quote_front<'t>(text: &'t [u8]) -> Option<Front<'t>>
 
 // This mark, of so many bytes.
 fn marked(mark: Mark, len: usize) -> Option<Front<'static>>
-    ensures { option_map begun_of result ≡ Some (markSym mark, len) }
+    ensures { option_map begun_of result ≡ Some (mark_sym mark, len) }
 {
     let symbol = Symbol::Mark(mark);
     Some(Front { symbol, len })

@@ -16,7 +16,7 @@ all_cells (z ∷ zs) = (int_le (neg_ℤ (pos 2147483648)) z && int_le z (pos 214
 abbrev pub cell_at : List ℤ → ℕ → Result ℤ StoreError
 cell_at xs n = cond (nat_lt n (length xs)) (Ok (slice_index_or xs n (pos 0))) (Err NoCell)
 
--- what `put n v` answers; it leaves `set xs n v`, which is xs itself where there is no cell n
+-- what `put n v` answers; it leaves `slice_set xs n v`, which is xs itself where there is no cell n
 abbrev pub placed : List ℤ → ℕ → Result (Unit {0}) StoreError
 placed xs n = cond (nat_lt n (length xs)) (Ok tt) (Err NoCell)
 

@@ -1,5 +1,5 @@
 -- Cells of four bytes: what a write of one leaves.
-use Rattle.std.proofs.Common.{◌≡◌, ℕ, ◌+◌, ◌-◌, ◌*◌, ◌/◌, ◌<◌, ◌≤◌, min, ltb, ◌≢◌, List, length, get_or, set, ℤ, pos, sym, ap, ◌∙◌, ⊎_elim, arith, length-set, w32, SFits, rules}
+use Rattle.std.proofs.Common.{◌≡◌, ℕ, ◌+◌, ◌*◌, ◌/◌, ◌<◌, ◌≤◌, min, ltb, ◌≢◌, List, length, get_or, set, ℤ, pos, sym, ap, ◌∙◌, ⊎_elim, arith, length-set, w32, SFits, rules}
 use Rattle.std.proofs.lemmas.List.FromFn.{length-map-range_with_len, get_or-map-range_with_len}
 use Rattle.std.proofs.lemmas.List.{get_or-set_same, get_or-set_other, same_lists, drop-set-lt}
 use Rattle.std.proofs.lemmas.Bool.{lt-ltb, le-ltb, cond-true, cond-false}

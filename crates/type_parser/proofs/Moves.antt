@@ -1,11 +1,10 @@
 -- What the readers of constants and types answer, step by step, in the forms that the code has. Assumes nothing.
-use Rattle.std.proofs.Common.{◌≡◌, ℕ, zero, suc, Bool, true, false, List, [], ◌∷◌, Some, None, Option, sym, refl, ap, ◌∙◌, subst}
+use Rattle.std.proofs.Common.{◌≡◌, ℕ, zero, suc, Bool, true, false, List, ◌∷◌, Some, None, Option, sym, refl, ap, ◌∙◌, subst}
 use Rattle.fault.specs.declared.Cause.TheVariants.{Syntax, TooDeep}
-use Rattle.symbol.specs.Symbols.{Sym, PlacedSym}
+use Rattle.symbol.specs.Symbols.{PlacedSym}
 use Rattle.symbol.specs.declared.mark.Mark.TheVariants.{RightParen, Colon, Semicolon}
 use Rattle.symbol.specs.declared.word.Word.TheVariants.{Of, End}
-use Rattle.cursor.specs.Reading.{Out, Reads, got, fault, after, mapped, head, tail, expect_mark, expect_word, Lex, number_of, idents_of, inner, nested, list_of}
-use Rattle.cursor.proofs.Loops.{after_after}
+use Rattle.cursor.specs.Reading.{Out, Reads, got, fault, after, mapped, head, tail, expect_mark, expect_word, Lex, number_of, idents_of, inner, list_of}
 use Rattle.cursor.proofs.Steps.{nested_none, nested_some}
 use Rattle.expression_tree.specs.declared.Sign.{Sign}
 use Rattle.expression_parser.specs.Classes.{sign, Start, a_number, a_character, a_name, an_opening, a_not, other, start}

@@ -1,9 +1,9 @@
 -- No reader of constants and types reads anything twice. Assumes nothing.
-use Rattle.std.proofs.Common.{◌≡◌, ℕ, zero, suc, List, [], ◌∷◌, length, Some, None, Option, refl}
-use Rattle.symbol.specs.Symbols.{Sym, PlacedSym}
+use Rattle.std.proofs.Common.{ℕ, zero, suc, List, length, Some, None, Option}
+use Rattle.symbol.specs.Symbols.{PlacedSym}
 use Rattle.symbol.specs.declared.mark.Mark.TheVariants.{RightParen, Colon, Semicolon}
 use Rattle.symbol.specs.declared.word.Word.TheVariants.{Of, End}
-use Rattle.cursor.specs.Reading.{Out, Reads, got, fault, after, mapped, head, tail, expect_mark, expect_word, number_of, idents_of, list_of}
+use Rattle.cursor.specs.Reading.{Reads, head, tail, expect_mark, expect_word, number_of, idents_of, list_of}
 use Rattle.cursor.proofs.Loops.{Within, Reading, All, within_after, within_mapped, within_tail, length_tail, mark_within, word_within, number_within, idents_within, nested_within, list_within}
 use Rattle.expression_tree.specs.declared.Sign.{Sign}
 use Rattle.expression_parser.specs.Classes.{sign, Start, a_number, a_character, a_name, an_opening, a_not, other, start}

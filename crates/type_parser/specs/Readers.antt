@@ -1,11 +1,11 @@
 -- The readers of constants and types, one for each rule of the grammar.
-use Rattle.std.specs.Prelude.{ℕ, zero, suc, cond, List, [], ◌∷◌, Some, None, Option}
+use Rattle.std.specs.Prelude.{ℕ, zero, suc, cond, List, Some, None, Option}
 use Rattle.fault.specs.declared.Cause.TheVariants.{Syntax}
-use Rattle.symbol.specs.Symbols.{Sym, PlacedSym, name, number, character, word, mark, ending}
+use Rattle.symbol.specs.Symbols.{Sym, name, number, character, word, mark, ending}
 use Rattle.symbol.specs.declared.mark.Mark.TheVariants.{LeftParen, RightParen, Colon, Semicolon}
 use Rattle.symbol.specs.declared.word.Word.TheVariants.{Array, Record, Of, End}
 use Rattle.cursor.specs.Kinds.{sym_is_mark, sym_is_word}
-use Rattle.cursor.specs.Reading.{Out, Reads, got, fault, after, mapped, head, tail, expect_mark, expect_word, Lex, ident_of, number_of, idents_of, nested, list_of}
+use Rattle.cursor.specs.Reading.{Reads, got, fault, after, mapped, head, tail, expect_mark, expect_word, Lex, number_of, idents_of, nested, list_of}
 use Rattle.expression_tree.specs.declared.Sign.{Sign}
 use Rattle.expression_parser.specs.Classes.{sign, Start, a_number, a_character, a_name, an_opening, a_not, other, start}
 use Rattle.type_tree.specs.Trees.{Con, Typ, signed, constant_name, constant_character, named, enumeration, array_of, record_of, secs}

@@ -1,14 +1,12 @@
-use Rattle.std.proofs.Common.{◌≡◌, true, false, [], ◌∷◌, Some, None, sym, refl, ap, ◌∙◌, rules}
+use Rattle.std.proofs.Common.{◌≡◌, None, sym, ap, ◌∙◌, rules}
 use Rattle.fault.specs.declared.Cause.TheVariants.{Syntax}
 use Rattle.symbol.specs.Symbols.{sym_of}
 use Rattle.symbol.specs.declared.mark.Mark.TheVariants.{Comma}
-use Rattle.cursor.specs.Reading.{inner}
 use Rattle.cursor.proofs.Loops.{rejoin, mapped_id, within_list, further_turn, further_less, further_turned, further_stop}
 use Rattle.cursor.proofs.Steps.{at_first, followed, follow, goes, onward, broke, made, refused, too_deep, list_turned, list_is}
 use Rattle.expression_tree.specs.Trees.{adds_of, muls_of, sels_of}
 use Rattle.expression_tree.specs.Trees as tree
 use Rattle.expression_parser.specs.Classes.{relation, adding, multiplying, start, an_opening, a_not, other}
-use Rattle.expression_parser.specs.Readers.{expression_of, factor}
 use Rattle.expression_parser.proofs.Within.{expression_within, factor_within}
 use Rattle.expression_parser.proofs.Moves.{expression_is, expression_plain, expression_related, simple_is, simple_begins, term_is, term_begins, addend_stop, addend_turn, addend_less, addend_again, multiplier_stop, multiplier_turn, multiplier_less, multiplier_again, factor_number, factor_character, factor_name, factor_paren, factor_not, paren_deep, not_deep, factor_other, named_call, named_variable, selector_stop, field_turn, field_again, field_less, index_turn, index_again, index_less, enclosed_deep, enclosed_is}
 use Rattle.expression_parser.proofs.+expressions.Goals as goal

@@ -1,13 +1,12 @@
-use Rattle.std.proofs.Common.{◌≡◌, [], ◌∷◌, sym, refl, ap, ◌∙◌, rules}
+use Rattle.std.proofs.Common.{◌≡◌, sym, ap, ◌∙◌, rules}
 use Rattle.fault.specs.declared.Cause.TheVariants.{Syntax}
 use Rattle.symbol.specs.Symbols.{sym_of}
 use Rattle.symbol.specs.declared.mark.Mark.TheVariants.{Semicolon}
-use Rattle.cursor.specs.Reading.{list_of}
-use Rattle.cursor.proofs.Loops.{within_list, further_turn, further_less, further_turned, further_stop, further_joined, further_joined_less}
-use Rattle.cursor.proofs.Steps.{at_first, followed, follow, goes, onward, broke, broke_joined, made, refused, too_deep, list_turned, list_is, list_joined}
+use Rattle.cursor.proofs.Loops.{within_list, further_turn, further_stop, further_joined, further_joined_less}
+use Rattle.cursor.proofs.Steps.{at_first, followed, follow, goes, onward, broke, broke_joined, made, refused, too_deep, list_is, list_joined}
 use Rattle.type_tree.specs.Trees.{secs_of}
 use Rattle.type_tree.specs.Trees as tree
-use Rattle.type_parser.specs.Readers.{kind, of_enumeration, of_array, of_record, of_other, section_of, type_expr_of}
+use Rattle.type_parser.specs.Readers.{kind, of_enumeration, of_array, of_record, of_other}
 use Rattle.type_parser.proofs.Within.{section_within, type_within}
 use Rattle.type_parser.proofs.Moves.{type_at_lem, array_deep, array_is, record_deep, record_is, section_is}
 use Rattle.type_parser.proofs.+types.Goals as goal

@@ -1,9 +1,8 @@
-use Rattle.std.proofs.Common.{◌≡◌, true, Some, None, sym, refl, ap, ◌∙◌, rules}
+use Rattle.std.proofs.Common.{◌≡◌, true, None, ap, rules}
 use Rattle.fault.specs.declared.Cause.TheVariants.{Syntax}
 use Rattle.symbol.specs.Symbols.{sym_of}
-use Rattle.cursor.proofs.Steps.{at_first, followed, follow, onward, broke, refused, too_deep}
-use Rattle.expression_parser.specs.Classes.{Start, a_number, a_character, a_name, start}
-use Rattle.type_parser.specs.Readers.{constant_at}
+use Rattle.cursor.proofs.Steps.{at_first, followed, follow, onward, broke, refused}
+use Rattle.expression_parser.specs.Classes.{start}
 use Rattle.type_parser.proofs.Moves.{constant_fault, constant_signed, constant_none, constant_number, constant_name_lem, constant_character_lem}
 use Rattle.type_parser.proofs.constant.Goals as goal
 

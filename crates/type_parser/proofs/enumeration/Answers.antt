@@ -1,7 +1,5 @@
-use Rattle.std.proofs.Common.{◌≡◌, Some, None, sym, refl, ap, ◌∙◌, rules}
-use Rattle.fault.specs.declared.Cause.TheVariants.{Syntax}
-use Rattle.symbol.specs.Symbols.{sym_of}
-use Rattle.cursor.proofs.Steps.{at_first, followed, follow, onward, broke, refused, too_deep}
+use Rattle.std.proofs.Common.{ap}
+use Rattle.cursor.proofs.Steps.{followed, follow, onward, broke, too_deep}
 use Rattle.type_parser.proofs.Moves.{enumeration_deep, enumeration_is}
 use Rattle.type_parser.proofs.enumeration.Goals as goal
 

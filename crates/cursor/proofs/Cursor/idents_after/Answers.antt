@@ -1,4 +1,4 @@
-use Rattle.std.proofs.Common.{◌≡◌, sym, ◌∙◌}
+use Rattle.std.proofs.Common.{sym, ◌∙◌}
 use Rattle.symbol.specs.declared.mark.Mark.TheVariants.{Comma}
 use Rattle.cursor.specs.Reading.{ident_of}
 use Rattle.cursor.specs.Promises.{lex_of}

@@ -1,4 +1,4 @@
-use Rattle.std.proofs.Common.{◌≡◌, sym, ap, ◌∙◌, rules}
+use Rattle.std.proofs.Common.{sym}
 use Rattle.fault.specs.declared.Cause.TheVariants.{Syntax}
 use Rattle.cursor.proofs.Steps.{follow, refused, mark_yes, mark_no}
 use Rattle.cursor.proofs.Cursor.mark.Goals as goal

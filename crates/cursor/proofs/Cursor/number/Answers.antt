@@ -1,4 +1,4 @@
-use Rattle.std.proofs.Common.{◌≡◌, None, sym, ap, ◌∙◌, rules}
+use Rattle.std.proofs.Common.{◌≡◌, None, ap, rules}
 use Rattle.fault.specs.declared.Cause.TheVariants.{Syntax}
 use Rattle.symbol.specs.Symbols.{sym_of}
 use Rattle.cursor.specs.Reading.{number_in}
