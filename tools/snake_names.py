@@ -38,6 +38,8 @@ OWN = {
     "number-in": "number_in_lem",
     "with_cell": "with_cell_lem",
 }
+# What stands behind a dot in a proof and is a name that Rattle made: left as it is, and told at the end.
+KEPT = []
 
 
 def folders(root, ends):
@@ -67,6 +69,7 @@ def answers(path):
 
 
 def own_names():
+    """The table from old to new, the names that Rattle makes, those taken from the library, and all words that occur."""
     declared, made, library = set(), set(), set()
     for path in folders("crates", ".antt"):
         text = read(path)
@@ -92,10 +95,11 @@ def own_names():
         if n not in OWN and n[0].islower() and "-" in n:
             if table[n] in words or any(m != n and table[m] == table[n] for m in table):
                 table[n] += "_lem"
-    return table, made, library, declared
+    return table, made, library, words
 
 
 def rewritten(path, text, table):
+    """The text with its names turned: all in code, between backticks in prose, none in strings of sources."""
     there = THERE.get(path.split(os.sep)[1] if path.startswith("crates") else "", {})
     edit = path.endswith(".edit")
     source = path.endswith(".rt")
@@ -136,17 +140,11 @@ def rewritten(path, text, table):
     return "\n".join(lines)
 
 
-KEPT = []
-
-
 def main(argv):
-    table, made, library, declared = own_names()
+    table, made, library, words = own_names()
     new = {}
     for old, to in table.items():
         new.setdefault(to, []).append(old)
-    words = set()
-    for path in folders("crates", (".antt", ".rt")):
-        words |= set(TOKEN.findall(read(path)))
     for to, olds in new.items():
         if len(olds) > 1:
             print("fall together:", to, olds)
