@@ -1,11 +1,12 @@
 -- Nothing is read twice, and the turns of a repetition one by one. Assumes nothing.
-use Rattle.std.proofs.Common.{◌≡◌, ℕ, zero, suc, ◌<◌, ◌≤◌, Bool, true, false, cond, List, [], ◌∷◌, ◌++◌, map, length, Some, None, Option, sym, refl, ap, ◌∙◌, subst, arith}
+use Rattle.std.proofs.Common.{◌≡◌, ℕ, zero, suc, ◌<◌, ◌≤◌, Bool, true, false, cond, List, [], ◌∷◌, ◌++◌, map, length, Some, None, Option, sym, refl, ap, ◌∙◌, subst, arith, append_assoc}
+use Rattle.std.proofs.lemmas.List.{append-nil, map-append}
 use Rattle.symbol.specs.Symbols.{Sym, PlacedSym, ending}
 use Rattle.symbol.specs.declared.mark.Mark.{Mark}
 use Rattle.symbol.specs.declared.mark.Mark.TheVariants.{Comma}
 use Rattle.symbol.specs.declared.word.Word.{Word}
 use Rattle.cursor.specs.Kinds.{sym_is_mark, sym_is_word}
-use Rattle.cursor.specs.Reading.{Out, Reads, got, fault, after, mapped, head, tail, expect_mark, expect_word, name_in, number_in, lexeme_at, ident_of, number_of, inner, nested, turn, many, loop, behind, separator, further_of, list_of, idents_of, turned}
+use Rattle.cursor.specs.Reading.{Out, Reads, got, fault, after, mapped, head, tail, expect, expect_mark, expect_word, name_in, number_in, lexeme_at, ident_of, number_of, inner, nested, turn, many, loop, behind, separator, further_of, list_of, idents_of}
 
 -- ---- answers put together
 
@@ -73,13 +74,15 @@ pub within_cond : {A : Type 0} (n : ℕ) (b : Bool) (o u : Out A) → Within n o
 within_cond n true o u h k = h
 within_cond n false o u h k = k
 
+expect_within : (is : Sym → Bool) → Reading (expect is)
+unfolding expect
+expect_within is ss = within_cond _ (is (head ss).symbol) _ _ (length_tail ss) tt
+
 pub mark_within : (m : Mark) → Reading (expect_mark m)
-unfolding expect_mark
-mark_within m ss = within_cond _ (sym_is_mark m (head ss).symbol) _ _ (length_tail ss) tt
+mark_within m = expect_within (sym_is_mark m)
 
 pub word_within : (w : Word) → Reading (expect_word w)
-unfolding expect_word
-word_within w ss = within_cond _ (sym_is_word w (head ss).symbol) _ _ (length_tail ss) tt
+word_within w = expect_within (sym_is_word w)
 
 lexeme_within : (o : Option (List ℕ)) → Reading (lexeme_at o)
 lexeme_within None ss = tt
@@ -211,16 +214,15 @@ module _ {O T B : Type 0} (op : Sym → Option O) (join : O → T → B) (r : Re
 
 -- behind the items read so far stand those to come
 pub pushed : {X B : Type 0} (f : X → B) (xs : List X) (x : X) (bs : List B) → map f (xs ++ x ∷ []) ++ bs ≡ map f xs ++ f x ∷ bs
-pushed f [] x bs = refl
-pushed f (y ∷ xs) x bs = ap (λ l. f y ∷ l) (pushed f xs x bs)
+pushed f xs x bs = simp (map-append, append_assoc)
 
 -- a list that begins with one item
 pub begins_pushed : {X B : Type 0} (f : X → B) (xs ys : List X) (x : X) (o : Out (List B)) → xs ≡ [] → ys ≡ xs ++ x ∷ [] → mapped (λ bs. f x ∷ bs) o ≡ mapped (λ bs. map f ys ++ bs) o
 begins_pushed f xs ys x o e y = mapped_same o _ _ (λ bs. sym (ap (λ l. map f l ++ bs) (y ∙ ap (λ l. l ++ x ∷ []) e)))
 
-pub nothing_behind : {B : Type 0} (bs : List B) → bs ++ [] ≡ bs
-nothing_behind [] = refl
-nothing_behind (b ∷ bs) = ap (λ l. b ∷ l) (nothing_behind bs)
+-- a list that has nothing yet
+pub from_none : {X B : Type 0} (f : X → B) (none : List X) (y : Out (List B)) → none ≡ [] → y ≡ mapped (λ bs. map f none ++ bs) y
+from_none f none y e = sym (mapped_id y) ∙ ap (λ l. mapped (λ bs. map f l ++ bs) y) (sym e)
 
 module _ {O B : Type 0} (op : Sym → Option O) (item : O → Reads B) (t : Turns op item) where
   -- one item more, in a list that grows at its end
@@ -230,44 +232,22 @@ module _ {O B : Type 0} (op : Sym → Option O) (item : O → Reads B) (t : Turn
       mapped_same (loop op item rest) _ _ (λ bs. ap (λ l. map f l ++ bs) y ∙ pushed f xs x bs)
       ∙ sym (mapped_turn op item t (λ bs. map f xs ++ bs) o ss e ∙ ap (λ x. after x (λ b left. mapped (λ bs. map f xs ++ b ∷ bs) (loop op item left))) g) ∙ i
 
+  -- the list is whole
+  pub whole : {X : Type 0} (f : X → B) (xs none : List X) (ss : List PlacedSym) (y : Out (List B)) → none ≡ [] → op (head ss).symbol ≡ None → mapped (λ bs. map f xs ++ bs) (loop op item ss) ≡ mapped (λ bs. map f none ++ bs) y → y ≡ got (map f xs) ss
+  whole f xs none ss y e n i = from_none f none y e ∙ sym i ∙ mapped_stop op item t (λ bs. map f xs ++ bs) ss n ∙ ap (λ l. got l ss) (append-nil (map f xs))
+
   pub push_stop : (bs : List B) (ss : List PlacedSym) {k : Out (List B)} → op (head ss).symbol ≡ None → mapped (λ cs. bs ++ cs) (loop op item ss) ≡ k → k ≡ got bs ss
-  push_stop bs ss e i = sym i ∙ mapped_stop op item t (λ cs. bs ++ cs) ss e ∙ ap (λ l. got l ss) (nothing_behind bs)
-
-  -- one item more, in a list that is turned later
-  pub turn_again : (xs ys : List B) (b : B) (o : O) (ss rest : List PlacedSym) {k : Out (List B)} → op (head ss).symbol ≡ Some o → item o ss ≡ got b rest → ys ≡ b ∷ xs → mapped (turned xs) (loop op item ss) ≡ k → mapped (turned ys) (loop op item rest) ≡ k
-  unfolding after
-  turn_again xs ys b o ss rest e g y i =
-      ap (λ l. mapped (turned l) (loop op item rest)) y
-      ∙ sym (mapped_turn op item t (turned xs) o ss e ∙ ap (λ x. after x (λ c left. mapped (λ bs. turned xs (c ∷ bs)) (loop op item left))) g) ∙ i
-
-pub joined_is : {B : Type 0} (xs : List B) (x : Out B) (l : List B) (rest : List PlacedSym) → mapped (λ b. b ∷ xs) x ≡ got l rest → (b : B) × (x ≡ got b rest) × (l ≡ b ∷ xs)
-unfolding after
-joined_is {B} xs (got b left) l rest h = (b, ap (λ z. got b (parts z).1) h, sym (ap (λ z. (parts z).0) h))
-  where
-    parts : Out (List B) → List B × List PlacedSym
-    parts (got a r) = (a, r)
-    parts (fault c r) = (xs, r)
-joined_is {B} xs (fault c left) l rest h = absurd (subst is_fault h tt)
-  where
-    is_fault : Out (List B) → Type 0
-    is_fault (got a r) = ⊥
-    is_fault (fault k r) = Unit {0}
-
--- an item that is read and put in front of the others
-module _ {O B X : Type 0} (op : Sym → Option O) (item : O → Reads B) (t : Turns op item) (f : X → List B) (xs : List B) (o : O) (ss rest : List PlacedSym) (e : op (head ss).symbol ≡ Some o) where
-  pub joined_again : (ys : X) {k : Out (List B)} → mapped (λ b. b ∷ xs) (item o ss) ≡ got (f ys) rest → mapped (turned xs) (loop op item ss) ≡ k → mapped (turned (f ys)) (loop op item rest) ≡ k
-  joined_again ys h i = let p = joined_is xs (item o ss) (f ys) rest h in turn_again op item t xs (f ys) p.0 o ss rest e p.1 p.2 i
-
-  pub joined_less : (ys : X) → mapped (λ b. b ∷ xs) (item o ss) ≡ got (f ys) rest → length rest < length ss
-  joined_less ys h = let p = joined_is xs (item o ss) (f ys) rest h in turn_less op item t o ss rest p.0 e p.1
-
--- what a whole is made of: the items read so far, and the repetition from here on
-pub rejoin : {B C : Type 0} (h : List B → C) (xs : List B) (x y : Out (List B)) {u : Out C} → u ≡ mapped h y → mapped (turned xs) x ≡ mapped (turned []) y → u ≡ mapped (λ bs. h (turned xs bs)) x
-rejoin h xs x y p i = p ∙ ap (mapped h) (sym (mapped_id y) ∙ sym i) ∙ mapped_mapped x (turned xs) h
+  push_stop bs ss e i = sym i ∙ mapped_stop op item t (λ cs. bs ++ cs) ss e ∙ ap (λ l. got l ss) (append-nil bs)
 
 pub behind_item : {O T B : Type 0} (join : O → T → B) (r : Reads T) (o : O) (ss rest left : List PlacedSym) (t : T) → rest ≡ tail ss → r rest ≡ got t left → behind join r o ss ≡ got (join o t) left
 unfolding after
 behind_item join r o ss rest left t h g = ap (λ l. mapped (join o) (r l)) (sym h) ∙ ap (mapped (join o)) g
+
+-- the same turn of a loop, where what is read stands in a list that grows at its end
+module _ {O T B : Type 0} (op : Sym → Option O) (join : O → T → B) (r : Reads T) (e : op ending ≡ None) (w : Reading r) where
+  pub behind_pushed : {X : Type 0} (f : X → B) (xs ys : List X) (x : X) (o : O) (ss rest left : List PlacedSym) (t : T) {k : Out (List B)} → op (head ss).symbol ≡ Some o → rest ≡ tail ss → r rest ≡ got t left → f x ≡ join o t → ys ≡ xs ++ x ∷ [] → mapped (λ bs. map f xs ++ bs) (loop op (behind join r) ss) ≡ k → mapped (λ bs. map f ys ++ bs) (loop op (behind join r) left) ≡ k
+  behind_pushed f xs ys x o ss rest left t s h g j y i =
+      push_again op (behind join r) (behind_turns op join r e w) f xs ys x o ss left s (behind_item join r o ss rest left t h g ∙ ap (λ b. got b left) (sym j)) y i
 
 -- ---- a list with separators
 
@@ -285,20 +265,10 @@ module _ {B : Type 0} (m : Mark) (r : Reads B) (w : Reading r) where
   further_less ss rest left b e h g = behind_less (separator m) (λ _ b. b) r refl w tt ss rest left b (rw e) h g
 
   pub further_pushed : {X : Type 0} (f : X → B) (xs ys : List X) (x : X) (ss rest left : List PlacedSym) {k : Out (List B)} → sym_is_mark m (head ss).symbol ≡ true → rest ≡ tail ss → r rest ≡ got (f x) left → ys ≡ xs ++ x ∷ [] → mapped (λ bs. map f xs ++ bs) (further_of m r ss) ≡ k → mapped (λ bs. map f ys ++ bs) (further_of m r left) ≡ k
-  further_pushed f xs ys x ss rest left e h g y i = push_again (separator m) _ further_turns f xs ys x tt ss left (rw e) (behind_item (λ (_ : Unit {0}) b. b) r tt ss rest left _ h g) y i
+  further_pushed f xs ys x ss rest left e h g y i = behind_pushed (separator m) (λ _ b. b) r refl w f xs ys x tt ss rest left _ (rw e) h g refl y i
 
   pub further_all : (bs : List B) (ss : List PlacedSym) {k : Out (List B)} → sym_is_mark m (head ss).symbol ≡ false → mapped (λ cs. bs ++ cs) (further_of m r ss) ≡ k → k ≡ got bs ss
   further_all bs ss e i = push_stop (separator m) _ further_turns bs ss (rw e) i
-
-  pub further_turned : (xs ys : List B) (b : B) (ss rest left : List PlacedSym) {k : Out (List B)} → sym_is_mark m (head ss).symbol ≡ true → rest ≡ tail ss → r rest ≡ got b left → ys ≡ b ∷ xs → mapped (turned xs) (further_of m r ss) ≡ k → mapped (turned ys) (further_of m r left) ≡ k
-  further_turned xs ys b ss rest left e h g y i = turn_again (separator m) _ further_turns xs ys b tt ss left (rw e) (behind_item (λ (_ : Unit {0}) b. b) r tt ss rest left _ h g) y i
-
-  -- an item that is read and put in front of the others
-  pub further_joined : {X : Type 0} (f : X → List B) (xs : List B) (ys : X) (ss rest left : List PlacedSym) {k : Out (List B)} → sym_is_mark m (head ss).symbol ≡ true → rest ≡ tail ss → mapped (λ b. b ∷ xs) (r rest) ≡ got (f ys) left → mapped (turned xs) (further_of m r ss) ≡ k → mapped (turned (f ys)) (further_of m r left) ≡ k
-  further_joined f xs ys ss rest left e h g i = joined_again (separator m) _ further_turns f xs tt ss left (rw e) ys (ap (mapped (λ b. b ∷ xs)) (mapped_id (r (tail ss)) ∙ ap r (sym h)) ∙ g) i
-
-  pub further_joined_less : {X : Type 0} (f : X → List B) (xs : List B) (ys : X) (ss rest left : List PlacedSym) → sym_is_mark m (head ss).symbol ≡ true → rest ≡ tail ss → mapped (λ b. b ∷ xs) (r rest) ≡ got (f ys) left → length left < length ss
-  further_joined_less f xs ys ss rest left e h g = joined_less (separator m) _ further_turns f xs tt ss left (rw e) ys (ap (mapped (λ b. b ∷ xs)) (mapped_id (r (tail ss)) ∙ ap r (sym h)) ∙ g)
 
   pub list_within : Reading (list_of m r)
   unfolding list_of

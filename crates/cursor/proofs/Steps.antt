@@ -1,17 +1,15 @@
 -- From a callee's answer to the caller's. Assumes nothing.
-use Rattle.std.proofs.Common.{◌≡◌, ℕ, suc, true, false, List, [], ◌∷◌, IsErrAnd, Some, None, Ok, Err, Result, sym, refl, ap, ◌∙◌, subst}
+use Rattle.std.proofs.Common.{◌≡◌, ℕ, suc, Bool, true, List, [], ◌∷◌, ◌++◌, map, IsErrAnd, Some, Ok, Err, Result, sym, refl, ap, ◌∙◌, subst}
 use Rattle.std.proofs.lemmas.Result.{err_from_is_err_and}
 use Rattle.fault.specs.declared.Cause.{Cause}
-use Rattle.fault.specs.declared.Cause.TheVariants.{Syntax, TooDeep}
+use Rattle.fault.specs.declared.Cause.TheVariants.{TooDeep}
 use Rattle.symbol.specs.Symbols.{Sym, PlacedSym, sym_of, placed_of}
 use Rattle.symbol.specs.declared.Placed.{Placed}
 use Rattle.symbol.specs.declared.mark.Mark.{Mark}
-use Rattle.symbol.specs.declared.word.Word.{Word}
 use Rattle.cursor.specs.declared.Halt.{Halt}
 use Rattle.cursor.specs.declared.Halt.TheVariants as h
-use Rattle.cursor.specs.Kinds.{sym_is_mark, sym_is_word}
-use Rattle.cursor.specs.Reading.{Out, Reads, got, fault, after, mapped, head, tail, expect_mark, expect_word, name_in, number_in, ident_of, number_of, inner, nested, further_of, list_of, turned}
-use Rattle.cursor.proofs.Loops.{joined_is}
+use Rattle.cursor.specs.Reading.{Out, Reads, got, fault, after, mapped, head, tail, expect, name_in, number_in, ident_of, number_of, inner, nested, further_of, list_of}
+use Rattle.cursor.proofs.Loops.{begins_pushed}
 use Rattle.cursor.specs.Promises.{halt_at, Answers, Follows, Opens}
 
 -- ---- the first symbol
@@ -20,37 +18,17 @@ use Rattle.cursor.specs.Promises.{halt_at, Answers, Follows, Opens}
 pub at_first : {Y : Type 0} (F : Sym → Y) (r : Placed) (ss : List PlacedSym) {y : Y} → placed_of r ≡ head ss → F (sym_of r.symbol) ≡ y → F (head ss).symbol ≡ y
 at_first F r ss e f = ap (λ s. F s.symbol) (sym e) ∙ f
 
-pub mark_yes : (m : Mark) (ss rest : List PlacedSym) → sym_is_mark m (head ss).symbol ≡ true → rest ≡ tail ss → expect_mark m ss ≡ got tt rest
-unfolding expect_mark
-mark_yes m ss rest e f = rw (e, f)
-
-pub mark_no : (m : Mark) (ss : List PlacedSym) → sym_is_mark m (head ss).symbol ≡ false → expect_mark m ss ≡ fault Syntax ss
-unfolding expect_mark
-mark_no m ss e = rw e
-
-pub word_yes : (w : Word) (ss rest : List PlacedSym) → sym_is_word w (head ss).symbol ≡ true → rest ≡ tail ss → expect_word w ss ≡ got tt rest
-unfolding expect_word
-word_yes w ss rest e f = rw (e, f)
-
-pub word_no : (w : Word) (ss : List PlacedSym) → sym_is_word w (head ss).symbol ≡ false → expect_word w ss ≡ fault Syntax ss
-unfolding expect_word
-word_no w ss e = rw e
+pub expect_yes : (is : Sym → Bool) (ss rest : List PlacedSym) → is (head ss).symbol ≡ true → rest ≡ tail ss → expect is ss ≡ got tt rest
+unfolding expect
+expect_yes is ss rest e f = rw (e, f)
 
 pub ident_yes : (ss rest : List PlacedSym) (b : List ℕ) (k : ℕ) → name_in (head ss).symbol ≡ Some b → k ≡ (head ss).place → rest ≡ tail ss → ident_of ss ≡ got (b, k) rest
 unfolding ident_of
 ident_yes ss rest b k e f g = rw (e, f, g)
 
-pub ident_no : (ss : List PlacedSym) → name_in (head ss).symbol ≡ None → ident_of ss ≡ fault Syntax ss
-unfolding ident_of
-ident_no ss e = rw e
-
 pub number_yes : (ss rest : List PlacedSym) (b : List ℕ) (k : ℕ) → number_in (head ss).symbol ≡ Some b → k ≡ (head ss).place → rest ≡ tail ss → number_of ss ≡ got (b, k) rest
 unfolding number_of
 number_yes ss rest b k e f g = rw (e, f, g)
-
-pub number_no : (ss : List PlacedSym) → number_in (head ss).symbol ≡ None → number_of ss ≡ fault Syntax ss
-unfolding number_of
-number_no ss e = rw e
 
 -- ---- from a callee's answer to the caller's
 
@@ -108,38 +86,12 @@ nested_some r d e ss rest k p q = ap (λ n. nested (inner r n) ss k) p ∙ ap (k
 pub made : {X A : Type 0} {f : X → A} {x : X} {t : A} {rest : List PlacedSym} {u : Out A} → u ≡ got t rest → f x ≡ t → Follows f (Ok x) rest u
 made {rest} q m = record { is = q ∙ ap (λ t. got t rest) (sym m) }
 
--- at the exit of a `?` on a reader that puts an item in front of the others
-unmapped : {A C : Type 0} (j : A → C) (x : Out A) (c : Cause) (rest : List PlacedSym) → mapped j x ≡ fault c rest → x ≡ fault c rest
-unfolding after
-unmapped {C} j (got a left) c rest h = absurd (subst is_got h tt)
-  where
-    is_got : Out C → Type 0
-    is_got (got b r) = Unit {0}
-    is_got (fault k r) = ⊥
-unmapped {C} j (fault d left) c rest h = ap (λ z. fault (parts z).0 (parts z).1) h
-  where
-    parts : Out C → Cause × List PlacedSym
-    parts (got b r) = (c, r)
-    parts (fault k r) = (k, r)
-
-unjoined : {X A C : Type 0} {f : X → C} {rest : List PlacedSym} (j : A → C) (o : Out A) (e : Halt) → Follows f (Err e) rest (mapped j o) → Follows {X = A} (λ a. a) (Err e) rest o
-unjoined j o (h.Wrong n) a = record { is = (a.is.0, unmapped j o _ _ a.is.1, a.is.2) }
-unjoined j o (h.Ended n) a = record { is = (a.is.0, unmapped j o _ _ a.is.1, a.is.2) }
-unjoined j o h.NoMemory a = record { is = tt }
-
-pub broke_joined : {X Y A B C : Type 0} {f : X → C} {g : Y → B} {r : Result Y Halt} {e : Halt} {rest : List PlacedSym} (j : A → C) (o : Out A) {u : Out B} (k : A → Reads B) → IsErrAnd r (λ y. y ≡ e) → Follows f (Err e) rest (mapped j o) → u ≡ after o k → Follows g r rest u
-broke_joined {e} j o k b a q = broke k b (unjoined j o e a) q
-
 -- ---- a list with separators
 
 pub list_is : {B : Type 0} (m : Mark) (r : Reads B) (ss : List PlacedSym) → list_of m r ss ≡ after (r ss) (λ b rest. mapped (λ bs. b ∷ bs) (further_of m r rest))
 unfolding list_of
 list_is m r ss = refl
 
--- up to the repetition, in a list that is turned later
-pub list_turned : {B : Type 0} (m : Mark) (r : Reads B) (ys : List B) (b : B) (ss rest : List PlacedSym) → r ss ≡ got b rest → ys ≡ b ∷ [] → list_of m r ss ≡ mapped (turned ys) (further_of m r rest)
-list_turned m r ys b ss rest g y = onward _ (list_is m r ss) g ∙ ap (λ l. mapped (turned l) (further_of m r rest)) (sym y)
-
--- the same, where the first item was put in front of none
-pub list_joined : {B : Type 0} (m : Mark) (r : Reads B) (ys : List B) (ss rest : List PlacedSym) → mapped (λ b. b ∷ []) (r ss) ≡ got ys rest → list_of m r ss ≡ mapped (turned ys) (further_of m r rest)
-list_joined m r ys ss rest g = let p = joined_is [] (r ss) ys rest g in list_turned m r ys p.0 ss rest p.1 p.2
+-- up to the repetition, where the first item stands in a list that grows at its end
+pub list_pushed : {X B : Type 0} (m : Mark) (r : Reads B) (f : X → B) (none ys : List X) (x : X) (ss rest : List PlacedSym) → r ss ≡ got (f x) rest → none ≡ [] → ys ≡ none ++ x ∷ [] → list_of m r ss ≡ mapped (λ bs. map f ys ++ bs) (further_of m r rest)
+list_pushed m r f none ys x ss rest g e y = onward _ (list_is m r ss) g ∙ begins_pushed f none ys x _ e y

@@ -1,11 +1,10 @@
 -- What the code promises, by the readers.
-use Rattle.std.specs.Prelude.{◌≡◌, ℕ, suc, List, [], ◌∷◌, map, Ok, Err, Result}
+use Rattle.std.specs.Prelude.{◌≡◌, ℕ, suc, List, [], ◌∷◌, Ok, Err, Result}
 use Rattle.fault.specs.declared.Cause.{Cause}
 use Rattle.fault.specs.declared.Cause.TheVariants.{TooDeep}
 use Rattle.fault.specs.Numbers.{fault_at}
-use Rattle.symbol.specs.Symbols.{PlacedSym, placed_of}
+use Rattle.symbol.specs.Symbols.{PlacedSym}
 use Rattle.std.specs.declared.alloc.AllocError.{AllocError}
-use Rattle.cursor.specs.declared.Cursor.{Cursor}
 use Rattle.cursor.specs.declared.Lexeme.{Lexeme}
 use Rattle.cursor.specs.declared.Halt.{Halt}
 use Rattle.cursor.specs.declared.Halt.TheVariants as h
@@ -13,9 +12,6 @@ use Rattle.cursor.specs.Reading.{Out, got, fault, tail, Lex}
 
 abbrev pub lex_of : Lexeme → Lex
 lex_of l = (l.text.now, l.place)
-
-unfoldable pub unread : Cursor → List PlacedSym
-unread c = map placed_of c.rest.now
 
 -- a fault at the first unread symbol, or where the symbols are used up
 abbrev pub halt_at : Cause → List PlacedSym → Halt

@@ -1,5 +1,5 @@
 -- How a grammar is read: what a reader answers, and how readers are put together. A reader goes over the list of the unread symbols.
-use Rattle.std.specs.Prelude.{ℕ, zero, suc, cond, List, [], ◌∷◌, length, Some, None, Option}
+use Rattle.std.specs.Prelude.{ℕ, zero, suc, Bool, cond, List, [], ◌∷◌, length, Some, None, Option}
 use Rattle.fault.specs.declared.Cause.{Cause}
 use Rattle.fault.specs.declared.Cause.TheVariants.{Syntax, TooDeep}
 use Rattle.symbol.specs.Symbols.{Sym, name, number, character, word, mark, ending, PlacedSym}
@@ -36,11 +36,15 @@ tail (s ∷ ss) = ss
 
 -- ---- one symbol
 
-unfoldable pub expect_mark : Mark → Reads (Unit {0})
-expect_mark m ss = cond (sym_is_mark m (head ss).symbol) (got tt (tail ss)) (fault Syntax ss)
+-- the symbol that must come here
+unfoldable pub expect : (Sym → Bool) → Reads (Unit {0})
+expect is ss = cond (is (head ss).symbol) (got tt (tail ss)) (fault Syntax ss)
 
-unfoldable pub expect_word : Word → Reads (Unit {0})
-expect_word w ss = cond (sym_is_word w (head ss).symbol) (got tt (tail ss)) (fault Syntax ss)
+abbrev pub expect_mark : Mark → Reads (Unit {0})
+expect_mark m = expect (sym_is_mark m)
+
+abbrev pub expect_word : Word → Reads (Unit {0})
+expect_word w = expect (sym_is_word w)
 
 -- nothing more
 unfoldable pub expect_end : Reads (Unit {0})
@@ -105,11 +109,6 @@ module _ {O B : Type 0} (op : Sym → Option O) (item : O → Reads B) where
   -- as many turns as there can be: each reads a symbol
   unfoldable pub loop : Reads (List B)
   loop ss = many (suc (length ss)) ss
-
--- a list in reverse order, in front of another
-abbrev pub turned : {B : Type 0} → List B → List B → List B
-turned [] bs = bs
-turned (x ∷ xs) bs = turned xs (x ∷ bs)
 
 -- an item that stands behind the symbol which tells that it comes
 abbrev pub behind : {O T B : Type 0} → (O → T → B) → Reads T → O → Reads B

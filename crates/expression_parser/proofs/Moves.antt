@@ -1,22 +1,25 @@
 -- What the readers of expressions answer, step by step, in the forms that the code has. Assumes nothing.
-use Rattle.std.proofs.Common.{◌≡◌, ℕ, zero, suc, ◌<◌, true, false, List, [], ◌∷◌, length, Some, None, Option, sym, refl, ap, ◌∙◌}
+use Rattle.std.proofs.Common.{◌≡◌, ℕ, zero, suc, ◌<◌, true, false, List, [], ◌∷◌, ◌++◌, map, length, Some, None, Option, sym, refl, ap, ◌∙◌}
 use Rattle.fault.specs.declared.Cause.TheVariants.{Syntax, TooDeep}
 use Rattle.symbol.specs.Symbols.{Sym, PlacedSym}
 use Rattle.symbol.specs.declared.mark.Mark.{Mark}
 use Rattle.symbol.specs.declared.mark.Mark.TheVariants.{LeftParen, RightParen, RightBracket, LeftBracket, Dot, Comma}
 use Rattle.cursor.specs.Kinds.{sym_is_mark}
-use Rattle.cursor.specs.Reading.{Out, Reads, got, fault, after, mapped, head, tail, Lex, ident_of, inner, paired, list_of, expect_mark, turned}
-use Rattle.cursor.proofs.Loops.{Reading, Turns, all_inner, after_after, mapped_turn, mapped_stop, turn_less, turn_again, behind_turn, behind_stop, behind_less}
+use Rattle.cursor.specs.Reading.{Out, Reads, got, fault, after, mapped, head, tail, Lex, ident_of, inner, paired, list_of, expect_mark}
+use Rattle.cursor.proofs.Loops.{Reading, Turns, all_inner, after_after, mapped_turn, whole, push_again, turn_less, behind_turn, behind_less, behind_pushed}
 use Rattle.cursor.proofs.Steps.{onward, nested_none, nested_some}
 use Rattle.expression_tree.specs.declared.Relation.{Relation}
 use Rattle.expression_tree.specs.declared.Sign.{Sign}
 use Rattle.expression_tree.specs.declared.Adding.{Adding}
 use Rattle.expression_tree.specs.declared.Multiplying.{Multiplying}
-use Rattle.expression_tree.specs.Trees.{Expr, Simp, Ter, Fac, Sel, to_field, to_index}
+use Rattle.expression_tree.specs.declared.Addend.{Addend}
+use Rattle.expression_tree.specs.declared.Multiplier.{Multiplier}
+use Rattle.expression_tree.specs.declared.Selector.{Selector}
+use Rattle.expression_tree.specs.Trees.{Expr, Simp, Ter, Fac, Sel, to_field, to_index, addend_of, multiplier_of, sel_of}
 use Rattle.expression_tree.specs.Trees as tree
 use Rattle.expression_parser.specs.Classes.{relation, sign, adding, multiplying, Start, a_number, a_character, a_name, an_opening, a_not, other, start, by_field, by_index, selecting}
 use Rattle.expression_parser.specs.Readers.{unsigned, multipliers_of, term_of, addends_of, simple_of, related_of, expression_of, enclosed_of, selector_of, selectors_of, named_of, factor_at, factor_of, factor}
-use Rattle.expression_parser.proofs.Within.{factor_within, term_within, selector_turns}
+use Rattle.expression_parser.proofs.Within.{factor_within, term_within, addend_turns, multiplier_turns, selector_turns}
 
 -- ---- expression, simple, term
 
@@ -46,8 +49,8 @@ pub term_begins : (f : Reads Fac) (ss rest : List PlacedSym) (x : Fac) → f ss 
 term_begins f ss rest x m = onward _ (term_is f ss) m
 
 module _ (d : ℕ) where
-  pub addend_stop : {C : Type 0} (g : List (Adding × Ter) → C) (ss : List PlacedSym) → adding (head ss).symbol ≡ None → mapped g (addends_of (factor d) ss) ≡ got (g []) ss
-  addend_stop g ss e = behind_stop adding _ (term_of (factor d)) refl (term_within (factor d) (factor_within d)) g ss e
+  pub addends_whole : (xs none : List Addend) (ss mid : List PlacedSym) → none ≡ [] → adding (head ss).symbol ≡ None → mapped (λ bs. map addend_of xs ++ bs) (addends_of (factor d) ss) ≡ mapped (λ bs. map addend_of none ++ bs) (addends_of (factor d) mid) → addends_of (factor d) mid ≡ got (map addend_of xs) ss
+  addends_whole xs none ss mid e n i = whole adding _ (addend_turns (factor d) (factor_within d)) addend_of xs none ss _ e n i
 
   pub addend_turn : {C : Type 0} (g : List (Adding × Ter) → C) (o : Adding) (ss rest : List PlacedSym) → adding (head ss).symbol ≡ Some o → rest ≡ tail ss → mapped g (addends_of (factor d) ss) ≡ after (term_of (factor d) rest) (λ t left. mapped (λ xs. g ((o, t) ∷ xs)) (addends_of (factor d) left))
   addend_turn g o ss rest e h = behind_turn adding _ (term_of (factor d)) refl (term_within (factor d) (factor_within d)) g o ss rest e h
@@ -55,12 +58,12 @@ module _ (d : ℕ) where
   pub addend_less : (o : Adding) (ss rest left : List PlacedSym) (t : Ter) → adding (head ss).symbol ≡ Some o → rest ≡ tail ss → term_of (factor d) rest ≡ got t left → length left < length ss
   addend_less o ss rest left t e h g = behind_less adding paired (term_of (factor d)) refl (term_within (factor d) (factor_within d)) o ss rest left t e h g
 
-  pub addend_again : (xs ys : List (Adding × Ter)) (o : Adding) (ss rest left : List PlacedSym) (t : Ter) {k : Out (List (Adding × Ter))} → adding (head ss).symbol ≡ Some o → rest ≡ tail ss → term_of (factor d) rest ≡ got t left → ys ≡ (o, t) ∷ xs → mapped (turned xs) (addends_of (factor d) ss) ≡ k → mapped (turned ys) (addends_of (factor d) left) ≡ k
-  addend_again xs ys o ss rest left t e h g y i =
-      ap (λ l. mapped (turned l) (addends_of (factor d) left)) y ∙ sym (onward _ (addend_turn (turned xs) o ss rest e h) g) ∙ i
+  pub addend_again : (xs ys : List Addend) (x : Addend) (o : Adding) (ss rest left : List PlacedSym) (t : Ter) {k : Out (List (Adding × Ter))} → adding (head ss).symbol ≡ Some o → rest ≡ tail ss → term_of (factor d) rest ≡ got t left → addend_of x ≡ (o, t) → ys ≡ xs ++ x ∷ [] → mapped (λ bs. map addend_of xs ++ bs) (addends_of (factor d) ss) ≡ k → mapped (λ bs. map addend_of ys ++ bs) (addends_of (factor d) left) ≡ k
+  addend_again xs ys x o ss rest left t e h g a y i =
+      behind_pushed adding paired (term_of (factor d)) refl (term_within (factor d) (factor_within d)) addend_of xs ys x o ss rest left t e h g a y i
 
-  pub multiplier_stop : {C : Type 0} (g : List (Multiplying × Fac) → C) (ss : List PlacedSym) → multiplying (head ss).symbol ≡ None → mapped g (multipliers_of (factor d) ss) ≡ got (g []) ss
-  multiplier_stop g ss e = behind_stop multiplying _ (factor d) refl (factor_within d) g ss e
+  pub multipliers_whole : (xs none : List Multiplier) (ss mid : List PlacedSym) → none ≡ [] → multiplying (head ss).symbol ≡ None → mapped (λ bs. map multiplier_of xs ++ bs) (multipliers_of (factor d) ss) ≡ mapped (λ bs. map multiplier_of none ++ bs) (multipliers_of (factor d) mid) → multipliers_of (factor d) mid ≡ got (map multiplier_of xs) ss
+  multipliers_whole xs none ss mid e n i = whole multiplying _ (multiplier_turns (factor d) (factor_within d)) multiplier_of xs none ss _ e n i
 
   pub multiplier_turn : {C : Type 0} (g : List (Multiplying × Fac) → C) (o : Multiplying) (ss rest : List PlacedSym) → multiplying (head ss).symbol ≡ Some o → rest ≡ tail ss → mapped g (multipliers_of (factor d) ss) ≡ after (factor d rest) (λ t left. mapped (λ xs. g ((o, t) ∷ xs)) (multipliers_of (factor d) left))
   multiplier_turn g o ss rest e h = behind_turn multiplying _ (factor d) refl (factor_within d) g o ss rest e h
@@ -68,9 +71,9 @@ module _ (d : ℕ) where
   pub multiplier_less : (o : Multiplying) (ss rest left : List PlacedSym) (t : Fac) → multiplying (head ss).symbol ≡ Some o → rest ≡ tail ss → factor d rest ≡ got t left → length left < length ss
   multiplier_less o ss rest left t e h g = behind_less multiplying paired (factor d) refl (factor_within d) o ss rest left t e h g
 
-  pub multiplier_again : (xs ys : List (Multiplying × Fac)) (o : Multiplying) (ss rest left : List PlacedSym) (t : Fac) {k : Out (List (Multiplying × Fac))} → multiplying (head ss).symbol ≡ Some o → rest ≡ tail ss → factor d rest ≡ got t left → ys ≡ (o, t) ∷ xs → mapped (turned xs) (multipliers_of (factor d) ss) ≡ k → mapped (turned ys) (multipliers_of (factor d) left) ≡ k
-  multiplier_again xs ys o ss rest left t e h g y i =
-      ap (λ l. mapped (turned l) (multipliers_of (factor d) left)) y ∙ sym (onward _ (multiplier_turn (turned xs) o ss rest e h) g) ∙ i
+  pub multiplier_again : (xs ys : List Multiplier) (x : Multiplier) (o : Multiplying) (ss rest left : List PlacedSym) (t : Fac) {k : Out (List (Multiplying × Fac))} → multiplying (head ss).symbol ≡ Some o → rest ≡ tail ss → factor d rest ≡ got t left → multiplier_of x ≡ (o, t) → ys ≡ xs ++ x ∷ [] → mapped (λ bs. map multiplier_of xs ++ bs) (multipliers_of (factor d) ss) ≡ k → mapped (λ bs. map multiplier_of ys ++ bs) (multipliers_of (factor d) left) ≡ k
+  multiplier_again xs ys x o ss rest left t e h g a y i =
+      behind_pushed multiplying paired (factor d) refl (factor_within d) multiplier_of xs ys x o ss rest left t e h g a y i
 
   -- ---- factor, by its first symbol
 
@@ -86,14 +89,14 @@ module _ (d : ℕ) where
   unfolding factor_of
   factor_at_lem ss x e = ap (λ r. r ss) factor_is ∙ ap (λ y. factor_at (inner factor d) y ss) e
 
-  pub factor_number : (ss rest : List PlacedSym) (b : List ℕ) (k : ℕ) → start (head ss).symbol ≡ a_number b → k ≡ (head ss).place → rest ≡ tail ss → factor d ss ≡ got (tree.number (b, k)) rest
-  factor_number ss rest b k e f g = factor_at_lem ss _ e ∙ rw (f, g)
+  pub factor_number : (ss rest : List PlacedSym) (b : List ℕ) (n : Lex) → start (head ss).symbol ≡ a_number b → n ≡ (b, (head ss).place) → rest ≡ tail ss → factor d ss ≡ got (tree.number n) rest
+  factor_number ss rest b n e f g = factor_at_lem ss _ e ∙ rw (f, g)
 
-  pub factor_character : (ss rest : List PlacedSym) (b : List ℕ) (k : ℕ) → start (head ss).symbol ≡ a_character b → k ≡ (head ss).place → rest ≡ tail ss → factor d ss ≡ got (tree.character (b, k)) rest
-  factor_character ss rest b k e f g = factor_at_lem ss _ e ∙ rw (f, g)
+  pub factor_character : (ss rest : List PlacedSym) (b : List ℕ) (n : Lex) → start (head ss).symbol ≡ a_character b → n ≡ (b, (head ss).place) → rest ≡ tail ss → factor d ss ≡ got (tree.character n) rest
+  factor_character ss rest b n e f g = factor_at_lem ss _ e ∙ rw (f, g)
 
-  pub factor_name : (ss rest : List PlacedSym) (b : List ℕ) (k : ℕ) → start (head ss).symbol ≡ a_name b → k ≡ (head ss).place → rest ≡ tail ss → factor d ss ≡ named_of (inner factor d) (b, k) rest
-  factor_name ss rest b k e f g = factor_at_lem ss _ e ∙ rw (f, g)
+  pub factor_name : (ss rest : List PlacedSym) (b : List ℕ) (n : Lex) → start (head ss).symbol ≡ a_name b → n ≡ (b, (head ss).place) → rest ≡ tail ss → factor d ss ≡ named_of (inner factor d) n rest
+  factor_name ss rest b n e f g = factor_at_lem ss _ e ∙ rw (f, g)
 
   pub factor_paren : (e : ℕ) (ss rest : List PlacedSym) (k : ℕ) → start (head ss).symbol ≡ an_opening → k ≡ (head ss).place → d ≡ suc e → rest ≡ tail ss → factor d ss ≡ after (expression_of (factor e) rest) (λ x left. mapped (λ _. tree.paren k x) (expect_mark RightParen left))
   factor_paren e ss rest k s p h r = factor_at_lem ss _ s ∙ nested_some factor d e ss rest _ h r ∙ rw p
@@ -129,9 +132,9 @@ module _ (d : ℕ) where
   by_none : (s : Sym) → sym_is_mark Dot s ≡ false → sym_is_mark LeftBracket s ≡ false → selecting s ≡ None
   by_none s e f = rw (e, f)
 
-  pub selector_stop : {C : Type 0} (g : List Sel → C) (ss : List PlacedSym) → sym_is_mark Dot (head ss).symbol ≡ false → sym_is_mark LeftBracket (head ss).symbol ≡ false → mapped g (selectors_of (inner factor d) ss) ≡ got (g []) ss
+  pub selectors_whole : (xs none : List Selector) (ss mid : List PlacedSym) → none ≡ [] → sym_is_mark Dot (head ss).symbol ≡ false → sym_is_mark LeftBracket (head ss).symbol ≡ false → mapped (λ bs. map sel_of xs ++ bs) (selectors_of (inner factor d) ss) ≡ mapped (λ bs. map sel_of none ++ bs) (selectors_of (inner factor d) mid) → selectors_of (inner factor d) mid ≡ got (map sel_of xs) ss
   unfolding selectors_of
-  selector_stop g ss e f = mapped_stop _ _ turns g ss (by_none (head ss).symbol e f)
+  selectors_whole xs none ss mid e f g i = whole _ _ turns sel_of xs none ss _ e (by_none (head ss).symbol f g) i
 
   field_item : (ss rest left : List PlacedSym) (n : Lex) → rest ≡ tail ss → ident_of rest ≡ got n left → selector_of (inner factor d) by_field ss ≡ got (to_field n) left
   unfolding after
@@ -141,9 +144,10 @@ module _ (d : ℕ) where
   unfolding selectors_of after
   field_turn g ss rest e h = mapped_turn _ _ turns g by_field ss (by_dot (head ss).symbol e) ∙ after_after (ident_of (tail ss)) _ _ ∙ ap (λ l. after (ident_of l) (λ n left. mapped (λ xs. g (to_field n ∷ xs)) (selectors_of (inner factor d) left))) (sym h)
 
-  pub field_again : (xs ys : List Sel) (ss rest left : List PlacedSym) (n : Lex) {k : Out (List Sel)} → sym_is_mark Dot (head ss).symbol ≡ true → rest ≡ tail ss → ident_of rest ≡ got n left → ys ≡ to_field n ∷ xs → mapped (turned xs) (selectors_of (inner factor d) ss) ≡ k → mapped (turned ys) (selectors_of (inner factor d) left) ≡ k
+  pub field_again : (xs ys : List Selector) (x : Selector) (ss rest left : List PlacedSym) (n : Lex) {k : Out (List Sel)} → sym_is_mark Dot (head ss).symbol ≡ true → rest ≡ tail ss → ident_of rest ≡ got n left → sel_of x ≡ to_field n → ys ≡ xs ++ x ∷ [] → mapped (λ bs. map sel_of xs ++ bs) (selectors_of (inner factor d) ss) ≡ k → mapped (λ bs. map sel_of ys ++ bs) (selectors_of (inner factor d) left) ≡ k
   unfolding selectors_of
-  field_again xs ys ss rest left n e h g y i = turn_again _ _ turns xs ys (to_field n) by_field ss left (by_dot (head ss).symbol e) (field_item ss rest left n h g) y i
+  field_again xs ys x ss rest left n e h g a y i =
+      push_again _ _ turns sel_of xs ys x by_field ss left (by_dot (head ss).symbol e) (field_item ss rest left n h g ∙ ap (λ b. got b left) (sym a)) y i
 
   pub field_less : (ss rest left : List PlacedSym) (n : Lex) → sym_is_mark Dot (head ss).symbol ≡ true → rest ≡ tail ss → ident_of rest ≡ got n left → length left < length ss
   field_less ss rest left n e h g = turn_less _ _ turns by_field ss left (to_field n) (by_dot (head ss).symbol e) (field_item ss rest left n h g)
@@ -156,9 +160,10 @@ module _ (d : ℕ) where
   unfolding selectors_of after
   index_turn g ss e f = mapped_turn _ _ turns g by_index ss (by_bracket (head ss).symbol e f) ∙ after_after (enclosed_of (inner factor d) RightBracket ss) _ _
 
-  pub index_again : (xs ys : List Sel) (ss left : List PlacedSym) (es : List Expr) {k : Out (List Sel)} → sym_is_mark Dot (head ss).symbol ≡ false → sym_is_mark LeftBracket (head ss).symbol ≡ true → enclosed_of (inner factor d) RightBracket ss ≡ got es left → ys ≡ to_index es ∷ xs → mapped (turned xs) (selectors_of (inner factor d) ss) ≡ k → mapped (turned ys) (selectors_of (inner factor d) left) ≡ k
+  pub index_again : (xs ys : List Selector) (x : Selector) (ss left : List PlacedSym) (es : List Expr) {k : Out (List Sel)} → sym_is_mark Dot (head ss).symbol ≡ false → sym_is_mark LeftBracket (head ss).symbol ≡ true → enclosed_of (inner factor d) RightBracket ss ≡ got es left → sel_of x ≡ to_index es → ys ≡ xs ++ x ∷ [] → mapped (λ bs. map sel_of xs ++ bs) (selectors_of (inner factor d) ss) ≡ k → mapped (λ bs. map sel_of ys ++ bs) (selectors_of (inner factor d) left) ≡ k
   unfolding selectors_of
-  index_again xs ys ss left es e f g y i = turn_again _ _ turns xs ys (to_index es) by_index ss left (by_bracket (head ss).symbol e f) (index_item ss left es g) y i
+  index_again xs ys x ss left es e f g a y i =
+      push_again _ _ turns sel_of xs ys x by_index ss left (by_bracket (head ss).symbol e f) (index_item ss left es g ∙ ap (λ b. got b left) (sym a)) y i
 
   pub index_less : (ss left : List PlacedSym) (es : List Expr) → sym_is_mark Dot (head ss).symbol ≡ false → sym_is_mark LeftBracket (head ss).symbol ≡ true → enclosed_of (inner factor d) RightBracket ss ≡ got es left → length left < length ss
   index_less ss left es e f g = turn_less _ _ turns by_index ss left (to_index es) (by_bracket (head ss).symbol e f) (index_item ss left es g)

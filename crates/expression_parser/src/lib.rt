@@ -1,22 +1,27 @@
 // The readers of expressions: one for each rule of the grammar, and one symbol looked ahead. Expression, simple, term and factor call each
 // other in a cycle, in which the nesting allowance falls.
+//
+// The allowance is a parameter beside the cursor and no field of it: it falls within a construct only, so every reader would have
+// to give a field back as it was, at each `?` too, and to promise that.
 #![tactic(auto)]
 
-ghost use Rattle.std.specs.Prelude.{◌≡◌};
+ghost use Rattle.std.specs.Prelude.{◌≡◌, map};
 ghost use Rattle.symbol.specs.Symbols.{sym_of};
-ghost use Rattle.cursor.specs.Promises.{lex_of, unread, Follows};
+ghost use Rattle.cursor.specs.Promises.{lex_of, Follows};
 ghost use Rattle.cursor.specs.Reading.{head, inner};
-ghost use Rattle.expression_tree.specs.Trees.{expr_of, simp_of, ter_of, fac_of, sels_of, exprs_of};
+ghost use Rattle.expression_tree.specs.Trees.{expr_of, simp_of, addend_of, ter_of, multiplier_of, fac_of, sel_of};
 ghost use Rattle.expression_parser.specs.Classes.{relation, sign, adding, multiplying};
-ghost use Rattle.expression_parser.specs.Readers.{unsigned, term_of, simple_of, expression_of, enclosed_of, selectors_of, named_of, factor as factor_at};
+ghost use Rattle.expression_parser.specs.Readers.{unsigned, term_of, multipliers_of, addends_of, simple_of, expression_of, enclosed_of, selectors_of, named_of, factor as factor_at};
 
 use cursor::{Cursor, Halt, Lexeme};
 use expression_tree::{
-    Addends, Adding, Expression, Expressions, Factor, Multipliers, Multiplying, Relation,
-    Selectors, Sign, Simple, Term,
+    Addend, Adding, Expression, Factor, Multiplier, Multiplying, Relation, Selector, Sign, Simple,
+    Term,
 };
 use fault::Cause;
 use symbol::{Mark, Symbol, Word};
+
+// The four below answer an `Option` and are no `TryFrom`: that a symbol is none of these is no error, but ends what is read.
 
 fn relation_of(symbol: Symbol) -> Option<Relation>
     ensures { result ≡ relation (sym_of symbol.entry) }
@@ -69,10 +74,10 @@ fn multiplying_of(symbol: Symbol) -> Option<Multiplying>
 
 // Reads the sign, if there is one.
 pub fn read_sign(cursor: &mut Cursor<'_, '_>) -> Option<Sign>
-    ensures { (result ≡ sign (head (unread cursor.old)).symbol) × (unread cursor.new ≡ unsigned result (unread cursor.old)) }
+    ensures { (result ≡ sign (head cursor.old).symbol) × (cursor.new ≡ unsigned result cursor.old) }
 {
     let sign = sign_of(cursor.first().symbol);
-    if let Some(_) = sign {
+    if sign.is_some() {
         cursor.advance();
     }
     sign
@@ -83,7 +88,7 @@ pub fn expression<'s, 't>(
     cursor: &mut Cursor<'s, 't>,
     allowance: u8,
 ) -> Result<Expression<'t>, Halt>
-    ensures { Follows expr_of result (unread cursor.new) (expression_of (factor_at allowance) (unread cursor.old)) }
+    ensures { Follows expr_of result cursor.new (expression_of (factor_at allowance) cursor.old) }
 {
     let left = simple(cursor, allowance)?;
     match relation_of(cursor.first().symbol) {
@@ -98,71 +103,79 @@ pub fn expression<'s, 't>(
 
 #[cycle(expressions)]
 fn simple<'s, 't>(cursor: &mut Cursor<'s, 't>, allowance: u8) -> Result<Simple<'t>, Halt>
-    ensures { Follows simp_of result (unread cursor.new) (simple_of (factor_at allowance) (unread cursor.old)) }
+    ensures { Follows simp_of result cursor.new (simple_of (factor_at allowance) cursor.old) }
 {
     let place = cursor.first().place;
     let sign = read_sign(cursor);
     let first = term(cursor, allowance)?;
-    let mut addends = Addends::NoAddend;
+    let addends = addends(cursor, allowance)?;
+    Ok(Simple {
+        place,
+        sign,
+        first,
+        addends,
+    })
+}
+
+// This loop and that of `multipliers` differ in operator, operand and node: one function for both would take two closures with
+// clauses of their own, and be longer than the two.
+#[cycle(expressions)]
+fn addends<'s, 't>(cursor: &mut Cursor<'s, 't>, allowance: u8) -> Result<Vec<Addend<'t>>, Halt>
+    ensures { Follows (λ v. map addend_of v.items) result cursor.new (addends_of (factor_at allowance) cursor.old) }
+{
+    let mut addends = Vec::new(cursor.heap);
     while let Some(adding) = adding_of(cursor.first().symbol) {
         cursor.advance();
-        let next = term(cursor, allowance)?;
-        addends = Addends::of_addend(cursor.heap, adding, next, addends)?;
+        let term = term(cursor, allowance)?;
+        addends.push(Addend { adding, term })?;
     }
-    let addends = addends.reversed(cursor.heap)?;
-    Ok(Simple::of_sum(cursor.heap, place, sign, first, addends)?)
+    Ok(addends)
 }
 
 #[cycle(expressions)]
 fn term<'s, 't>(cursor: &mut Cursor<'s, 't>, allowance: u8) -> Result<Term<'t>, Halt>
-    ensures { Follows ter_of result (unread cursor.new) (term_of (factor_at allowance) (unread cursor.old)) }
+    ensures { Follows ter_of result cursor.new (term_of (factor_at allowance) cursor.old) }
 {
     let first = factor(cursor, allowance)?;
-    let mut multipliers = Multipliers::NoMultiplier;
+    let multipliers = multipliers(cursor, allowance)?;
+    Ok(Term { first, multipliers })
+}
+
+#[cycle(expressions)]
+fn multipliers<'s, 't>(
+    cursor: &mut Cursor<'s, 't>,
+    allowance: u8,
+) -> Result<Vec<Multiplier<'t>>, Halt>
+    ensures { Follows (λ v. map multiplier_of v.items) result cursor.new (multipliers_of (factor_at allowance) cursor.old) }
+{
+    let mut multipliers = Vec::new(cursor.heap);
     while let Some(multiplying) = multiplying_of(cursor.first().symbol) {
         cursor.advance();
-        let next = factor(cursor, allowance)?;
-        multipliers = Multipliers::of_multiplier(cursor.heap, multiplying, next, multipliers)?;
+        let factor = factor(cursor, allowance)?;
+        multipliers.push(Multiplier {
+            multiplying,
+            factor,
+        })?;
     }
-    let multipliers = multipliers.reversed(cursor.heap)?;
-    Ok(Term::of_product(cursor.heap, first, multipliers)?)
+    Ok(multipliers)
 }
 
 #[cycle(expressions)]
 fn factor<'s, 't>(cursor: &mut Cursor<'s, 't>, allowance: u8) -> Result<Factor<'t>, Halt>
-    ensures { Follows fac_of result (unread cursor.new) (factor_at allowance (unread cursor.old)) }
+    ensures { Follows fac_of result cursor.new (factor_at allowance cursor.old) }
 {
     let first = cursor.first();
     match first.symbol {
-        Symbol::Number(text) => {
-            cursor.advance();
-            Ok(Factor::Number(Lexeme {
-                text,
-                place: first.place,
-            }))
-        }
-        Symbol::Character(text) => {
-            cursor.advance();
-            Ok(Factor::Character(Lexeme {
-                text,
-                place: first.place,
-            }))
-        }
+        Symbol::Number(text) => Ok(Factor::Number(cursor.take(text))),
+        Symbol::Character(text) => Ok(Factor::Character(cursor.take(text))),
         Symbol::Name(text) => {
-            cursor.advance();
-            named(
-                cursor,
-                allowance,
-                Lexeme {
-                    text,
-                    place: first.place,
-                },
-            )
+            let name = cursor.take(text);
+            named(cursor, allowance, name)
         }
         Symbol::Mark(Mark::LeftParen) => {
             let deeper = cursor.deeper(allowance)?;
             let inner = expression(cursor, deeper)?;
-            cursor.mark(Mark::RightParen)?;
+            cursor.pass(Mark::RightParen)?;
             Ok(Factor::of_paren(cursor.heap, first.place, inner)?)
         }
         Symbol::Word(Word::Not) => {
@@ -181,31 +194,34 @@ fn named<'s, 't>(
     allowance: u8,
     name: Lexeme<'t>,
 ) -> Result<Factor<'t>, Halt>
-    ensures { Follows fac_of result (unread cursor.new) (named_of (inner factor_at allowance) (lex_of name.entry) (unread cursor.old)) }
+    ensures { Follows fac_of result cursor.new (named_of (inner factor_at allowance) (lex_of name.entry) cursor.old) }
 {
-    if cursor.at_mark(Mark::LeftParen) {
+    if cursor.at(Mark::LeftParen) {
         let actuals = enclosed(cursor, allowance, Mark::RightParen)?;
-        return Ok(Factor::of_call(cursor.heap, name, actuals)?);
+        return Ok(Factor::Call(name, actuals));
     }
     let selectors = selectors(cursor, allowance)?;
-    Ok(Factor::of_variable(cursor.heap, name, selectors)?)
+    Ok(Factor::Variable(name, selectors))
 }
 
 #[cycle(expressions)]
-pub fn selectors<'s, 't>(cursor: &mut Cursor<'s, 't>, allowance: u8) -> Result<Selectors<'t>, Halt>
-    ensures { Follows sels_of result (unread cursor.new) (selectors_of (inner factor_at allowance) (unread cursor.old)) }
+pub fn selectors<'s, 't>(
+    cursor: &mut Cursor<'s, 't>,
+    allowance: u8,
+) -> Result<Vec<Selector<'t>>, Halt>
+    ensures { Follows (λ v. map sel_of v.items) result cursor.new (selectors_of (inner factor_at allowance) cursor.old) }
 {
-    let mut selectors = Selectors::NoSelector;
+    let mut selectors = Vec::new(cursor.heap);
     loop {
-        if cursor.at_mark(Mark::Dot) {
+        if cursor.at(Mark::Dot) {
             cursor.advance();
             let field = cursor.ident()?;
-            selectors = Selectors::of_field(cursor.heap, field, selectors)?;
-        } else if cursor.at_mark(Mark::LeftBracket) {
+            selectors.push(Selector::Field(field))?;
+        } else if cursor.at(Mark::LeftBracket) {
             let indices = enclosed(cursor, allowance, Mark::RightBracket)?;
-            selectors = Selectors::of_index(cursor.heap, indices, selectors)?;
+            selectors.push(Selector::Index(indices))?;
         } else {
-            return Ok(selectors.reversed(cursor.heap)?);
+            return Ok(selectors);
         }
     }
 }
@@ -216,17 +232,18 @@ pub fn enclosed<'s, 't>(
     cursor: &mut Cursor<'s, 't>,
     allowance: u8,
     close: Mark,
-) -> Result<Expressions<'t>, Halt>
-    ensures { Follows exprs_of result (unread cursor.new) (enclosed_of (inner factor_at allowance) close (unread cursor.old)) }
+) -> Result<Vec<Expression<'t>>, Halt>
+    ensures { Follows (λ v. map expr_of v.items) result cursor.new (enclosed_of (inner factor_at allowance) close cursor.old) }
 {
     let deeper = cursor.deeper(allowance)?;
     let first = expression(cursor, deeper)?;
-    let mut list = Expressions::of_item(cursor.heap, first, Expressions::NoExpression)?;
-    while cursor.at_mark(Mark::Comma) {
+    let mut list = Vec::new(cursor.heap);
+    list.push(first)?;
+    while cursor.at(Mark::Comma) {
         cursor.advance();
         let next = expression(cursor, deeper)?;
-        list = Expressions::of_item(cursor.heap, next, list)?;
+        list.push(next)?;
     }
-    cursor.mark(close)?;
-    Ok(list.reversed(cursor.heap)?)
+    cursor.pass(close)?;
+    Ok(list)
 }

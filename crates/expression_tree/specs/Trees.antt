@@ -7,14 +7,15 @@ use Rattle.expression_tree.specs.declared.Sign.{Sign}
 use Rattle.expression_tree.specs.declared.Adding.{Adding}
 use Rattle.expression_tree.specs.declared.Multiplying.{Multiplying}
 use Rattle.expression_tree.specs.declared.Expression.{Expression}
-use Rattle.expression_tree.specs.declared.Simple.{Simple}
-use Rattle.expression_tree.specs.declared.Addends.{Addends}
-use Rattle.expression_tree.specs.declared.Term.{Term}
-use Rattle.expression_tree.specs.declared.Multipliers.{Multipliers}
-use Rattle.expression_tree.specs.declared.Factor.{Factor}
-use Rattle.expression_tree.specs.declared.Selectors.{Selectors}
-use Rattle.expression_tree.specs.declared.Expressions.{Expressions}
-use Rattle.expression_tree.specs.declared.Addends.TheVariants as coded
+use Rattle.expression_tree.specs.declared.Expression.TheVariants as expression
+use Rattle.expression_tree.specs.declared.Simple.{Simple, Simple', Row_of-Addend, end_of-Addend, more_of-Addend}
+use Rattle.expression_tree.specs.declared.Addend.{Addend, Addend'}
+use Rattle.expression_tree.specs.declared.Term.{Term, Term', Row_of-Multiplier, end_of-Multiplier, more_of-Multiplier}
+use Rattle.expression_tree.specs.declared.Multiplier.{Multiplier}
+use Rattle.expression_tree.specs.declared.Factor.{Factor, Row_of-Selector, end_of-Selector, more_of-Selector, Row_of-Expression, end_of-Expression, more_of-Expression}
+use Rattle.expression_tree.specs.declared.Factor.TheVariants as factor
+use Rattle.expression_tree.specs.declared.Selector.{Selector}
+use Rattle.expression_tree.specs.declared.Selector.TheVariants as selector
 
 mutual
   pub data Expr : Type 0 where
@@ -83,36 +84,45 @@ sels (x ∷ xs) = select x (sels xs)
 
 abbrev mutual
   pub expr_of : Expression → Expr
-  expr_of (coded.Plain' p s) = plain (simp_of s)
-  expr_of (coded.Related' p s r q t) = related (simp_of s) r (simp_of t)
+  expr_of (expression.Plain' p s) = plain (simp_of s)
+  expr_of (expression.Related' p s r q t) = related (simp_of s) r (simp_of t)
 
   pub simp_of : Simple → Simp
-  simp_of (coded.Sum' k g p t q a) = sum k g (ter_of t) (adds (adds_of a))
+  simp_of (Simple' k g t v xs) = sum k g (ter_of t) (adds (adds_of xs))
 
-  pub adds_of : Addends → List (Adding × Ter)
-  adds_of coded.NoAddend = []
-  adds_of (coded.Addend' o p t q a) = (o, ter_of t) ∷ adds_of a
+  pub addend_of : Addend → Adding × Ter
+  addend_of (Addend' o t) = (o, ter_of t)
+
+  pub adds_of : {n : _} → Row_of-Addend n → List (Adding × Ter)
+  adds_of end_of-Addend = []
+  adds_of (more_of-Addend x xs) = addend_of x ∷ adds_of xs
 
   pub ter_of : Term → Ter
-  ter_of (coded.Product' p f q m) = product (fac_of f) (muls (muls_of m))
+  ter_of (Term' f v ms) = product (fac_of f) (muls (muls_of ms))
 
-  pub muls_of : Multipliers → List (Multiplying × Fac)
-  muls_of coded.NoMultiplier = []
-  muls_of (coded.Multiplier' o p f q m) = (o, fac_of f) ∷ muls_of m
+  pub muls_of : {n : _} → Row_of-Multiplier n → List (Multiplying × Fac)
+  muls_of end_of-Multiplier = []
+  muls_of (more_of-Multiplier o f ms) = (o, fac_of f) ∷ muls_of ms
 
   pub fac_of : Factor → Fac
-  fac_of (coded.Number l) = number (lex_of l)
-  fac_of (coded.Character l) = character (lex_of l)
-  fac_of (coded.Variable' l p s) = variable (lex_of l) (sels (sels_of s))
-  fac_of (coded.Call' l p e) = call (lex_of l) (exprs (exprs_of e))
-  fac_of (coded.Paren' k p e) = paren k (expr_of e)
-  fac_of (coded.Not' k p f) = negated k (fac_of f)
+  fac_of (factor.Number l) = number (lex_of l)
+  fac_of (factor.Character l) = character (lex_of l)
+  fac_of (factor.Variable' l v s) = variable (lex_of l) (sels (sels_of s))
+  fac_of (factor.Call' l v e) = call (lex_of l) (exprs (exprs_of e))
+  fac_of (factor.Paren' k p e) = paren k (expr_of e)
+  fac_of (factor.Not' k p f) = negated k (fac_of f)
 
-  pub sels_of : Selectors → List Sel
-  sels_of coded.NoSelector = []
-  sels_of (coded.Field' l p s) = to_field (lex_of l) ∷ sels_of s
-  sels_of (coded.Index' p e q s) = to_index (exprs_of e) ∷ sels_of s
+  pub sel_of : Selector → Sel
+  sel_of (selector.Field l) = to_field (lex_of l)
+  sel_of (selector.Index' v e) = to_index (exprs_of e)
 
-  pub exprs_of : Expressions → List Expr
-  exprs_of coded.NoExpression = []
-  exprs_of (coded.Item' p e q r) = expr_of e ∷ exprs_of r
+  pub sels_of : {n : _} → Row_of-Selector n → List Sel
+  sels_of end_of-Selector = []
+  sels_of (more_of-Selector x xs) = sel_of x ∷ sels_of xs
+
+  pub exprs_of : {n : _} → Row_of-Expression n → List Expr
+  exprs_of end_of-Expression = []
+  exprs_of (more_of-Expression e es) = expr_of e ∷ exprs_of es
+
+abbrev pub multiplier_of : Multiplier → Multiplying × Fac
+multiplier_of m = (m.multiplying, fac_of m.factor)

@@ -1,12 +1,12 @@
 // The tree of an expression. Names, numbers and characters are parts of the text. A tree is as deep as its text is nested: what the
-// grammar repeats is a list, built back to front, turned once, and dropped by a loop.
+// grammar repeats stands in a `Vec`.
 #![tactic(auto)]
 
 pub mod makers;
 
 use cursor::Lexeme;
 
-#[derive(Clone, Copy)]
+#[derive(Clone, Copy, Debug, PartialEq, Eq)]
 pub enum Relation {
     Equal,
     NotEqual,
@@ -16,13 +16,13 @@ pub enum Relation {
     GreaterEqual,
 }
 
-#[derive(Clone, Copy)]
+#[derive(Clone, Copy, Debug, PartialEq, Eq)]
 pub enum Sign {
     Plus,
     Minus,
 }
 
-#[derive(Clone, Copy)]
+#[derive(Clone, Copy, Debug, PartialEq, Eq)]
 pub enum Adding {
     Plus,
     Minus,
@@ -30,7 +30,7 @@ pub enum Adding {
     Xor,
 }
 
-#[derive(Clone, Copy)]
+#[derive(Clone, Copy, Debug, PartialEq, Eq)]
 pub enum Multiplying {
     Times,
     Slash,
@@ -39,6 +39,7 @@ pub enum Multiplying {
     And,
 }
 
+#[derive(Drop)]
 #[cycle(expression)]
 pub enum Expression<'t> {
     Plain(Box<Simple<'t>>),
@@ -46,176 +47,52 @@ pub enum Expression<'t> {
 }
 
 // The place of the first symbol, a sign, the first term and those added to it.
+#[derive(Drop)]
 #[cycle(expression)]
-pub enum Simple<'t> {
-    Sum(usize, Option<Sign>, Box<Term<'t>>, Box<Addends<'t>>),
+pub struct Simple<'t> {
+    pub place: usize,
+    pub sign: Option<Sign>,
+    pub first: Term<'t>,
+    pub addends: Vec<Addend<'t>>,
 }
 
+#[derive(Drop)]
 #[cycle(expression)]
-pub enum Addends<'t> {
-    NoAddend,
-    Addend(Adding, Box<Term<'t>>, Box<Addends<'t>>),
+pub struct Addend<'t> {
+    pub adding: Adding,
+    pub term: Term<'t>,
 }
 
+#[derive(Drop)]
 #[cycle(expression)]
-pub enum Term<'t> {
-    Product(Box<Factor<'t>>, Box<Multipliers<'t>>),
+pub struct Term<'t> {
+    pub first: Factor<'t>,
+    pub multipliers: Vec<Multiplier<'t>>,
 }
 
+#[derive(Drop)]
 #[cycle(expression)]
-pub enum Multipliers<'t> {
-    NoMultiplier,
-    Multiplier(Multiplying, Box<Factor<'t>>, Box<Multipliers<'t>>),
+pub struct Multiplier<'t> {
+    pub multiplying: Multiplying,
+    pub factor: Factor<'t>,
 }
 
 // Parentheses and not have their place.
+#[derive(Drop)]
 #[cycle(expression)]
 pub enum Factor<'t> {
     Number(Lexeme<'t>),
     Character(Lexeme<'t>),
-    Variable(Lexeme<'t>, Box<Selectors<'t>>),
-    Call(Lexeme<'t>, Box<Expressions<'t>>),
+    Variable(Lexeme<'t>, Vec<Selector<'t>>),
+    Call(Lexeme<'t>, Vec<Expression<'t>>),
     Paren(usize, Box<Expression<'t>>),
     Not(usize, Box<Factor<'t>>),
 }
 
 // What is chosen of a variable: a field, or what the indices of one bracket tell.
+#[derive(Drop)]
 #[cycle(expression)]
-pub enum Selectors<'t> {
-    NoSelector,
-    Field(Lexeme<'t>, Box<Selectors<'t>>),
-    Index(Box<Expressions<'t>>, Box<Selectors<'t>>),
-}
-
-// Actuals or indices. Where the grammar has such a list, it has an expression at least.
-#[cycle(expression)]
-pub enum Expressions<'t> {
-    NoExpression,
-    Item(Box<Expression<'t>>, Box<Expressions<'t>>),
-}
-
-// ---- how trees are let go: the lists by a loop, since they can be as long as a text
-
-impl Drop for Expression<'_> {
-    #[cycle(drops)]
-    fn drop(self) {
-        match self {
-            Expression::Plain(simple) => {
-                let _simple = Box::into_inner(simple);
-            }
-            Expression::Related(left, _, right) => {
-                let _left = Box::into_inner(left);
-                let _right = Box::into_inner(right);
-            }
-        }
-    }
-}
-
-impl Drop for Simple<'_> {
-    #[cycle(drops)]
-    fn drop(self) {
-        match self {
-            Simple::Sum(_, _, term, addends) => {
-                let _term = Box::into_inner(term);
-                let _addends = Box::into_inner(addends);
-            }
-        }
-    }
-}
-
-impl Drop for Addends<'_> {
-    #[cycle(drops)]
-    fn drop(mut self) {
-        loop {
-            match self {
-                Addends::NoAddend => return,
-                Addends::Addend(_, term, rest) => {
-                    let _term = Box::into_inner(term);
-                    self = Box::into_inner(rest);
-                }
-            }
-        }
-    }
-}
-
-impl Drop for Term<'_> {
-    #[cycle(drops)]
-    fn drop(self) {
-        match self {
-            Term::Product(factor, multipliers) => {
-                let _factor = Box::into_inner(factor);
-                let _multipliers = Box::into_inner(multipliers);
-            }
-        }
-    }
-}
-
-impl Drop for Multipliers<'_> {
-    #[cycle(drops)]
-    fn drop(mut self) {
-        loop {
-            match self {
-                Multipliers::NoMultiplier => return,
-                Multipliers::Multiplier(_, factor, rest) => {
-                    let _factor = Box::into_inner(factor);
-                    self = Box::into_inner(rest);
-                }
-            }
-        }
-    }
-}
-
-impl Drop for Factor<'_> {
-    #[cycle(drops)]
-    fn drop(self) {
-        match self {
-            Factor::Number(_) => {}
-            Factor::Character(_) => {}
-            Factor::Variable(_, selectors) => {
-                let _selectors = Box::into_inner(selectors);
-            }
-            Factor::Call(_, expressions) => {
-                let _expressions = Box::into_inner(expressions);
-            }
-            Factor::Paren(_, expression) => {
-                let _expression = Box::into_inner(expression);
-            }
-            Factor::Not(_, factor) => {
-                let _factor = Box::into_inner(factor);
-            }
-        }
-    }
-}
-
-impl Drop for Selectors<'_> {
-    #[cycle(drops)]
-    fn drop(mut self) {
-        loop {
-            match self {
-                Selectors::NoSelector => return,
-                Selectors::Field(_, rest) => {
-                    self = Box::into_inner(rest);
-                }
-                Selectors::Index(expressions, rest) => {
-                    let _expressions = Box::into_inner(expressions);
-                    self = Box::into_inner(rest);
-                }
-            }
-        }
-    }
-}
-
-impl Drop for Expressions<'_> {
-    #[cycle(drops)]
-    fn drop(mut self) {
-        loop {
-            match self {
-                Expressions::NoExpression => return,
-                Expressions::Item(expression, rest) => {
-                    let _expression = Box::into_inner(expression);
-                    self = Box::into_inner(rest);
-                }
-            }
-        }
-    }
+pub enum Selector<'t> {
+    Field(Lexeme<'t>),
+    Index(Vec<Expression<'t>>),
 }

@@ -5,6 +5,8 @@ use Rattle.fault.specs.declared.Layer.TheVariants.{Reader, Checker}
 use Rattle.fault.specs.declared.Cause.{Cause}
 use Rattle.fault.specs.declared.Cause.TheVariants.{TooLong, NoSymbol, Syntax, TooDeep, UnknownName, NameTwice, DefineList, WrongKind, NotChangeable, Closed, TooMany}
 use Rattle.fault.specs.declared.Fault.{Fault}
+use Rattle.fault.specs.declared.LoadError.{LoadError}
+use Rattle.fault.specs.declared.LoadError.TheVariants.{Text, NoMemory}
 use Rattle.fault.specs.declared.Trap.{Trap}
 use Rattle.fault.specs.declared.Trap.TheVariants.{Index, Divisor, Beyond, Depth, Foreign}
 use Rattle.fault.specs.declared.StoreError.{StoreError}
@@ -54,6 +56,11 @@ told f = record { number = cause_number f.cause; layer = cause_layer f.cause; pl
 -- the line that tells it: the word fault, number, layer and place, with blanks between
 abbrev pub fault_line : Fault → List ℕ
 fault_line f = codes "fault " ++ (decimal (told f).number ++ (codes " " ++ (layer_name (told f).layer ++ (codes " " ++ decimal (told f).place))))
+
+-- the line that tells why a text could not be loaded
+abbrev pub load_error_line : LoadError → List ℕ
+load_error_line (Text f) = fault_line f
+load_error_line NoMemory = codes "no memory"
 
 -- a fault of this cause at this place
 abbrev pub fault_at : Cause → ℕ → Fault

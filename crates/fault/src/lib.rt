@@ -3,9 +3,10 @@
 
 ghost use Rattle.std.specs.Prelude.{◌≡◌, Some};
 ghost use Rattle.fault.specs.declared.LoadError.TheVariants.{Text, NoMemory};
-ghost use Rattle.fault.specs.Numbers.{cause_number, cause_layer, layer_name, fault_at, told, fault_line, trap_number, store_error_number};
+ghost use Rattle.fault.specs.Numbers.{cause_number, cause_layer, layer_name, fault_at, told, fault_line, load_error_line, trap_number, store_error_number};
 
 use std::alloc::{AllocError, AllocFailed};
+use std::error::Error;
 use std::fmt;
 
 // Who refused a text: the reader goes by symbols and grammar, the checker by names and types.
@@ -30,43 +31,31 @@ impl Layer {
 #[derive(Clone, Copy, Debug, PartialEq, Eq)]
 pub enum Cause {
     // more bytes than a text may have
-    TooLong,
+    TooLong = 1,
     // no symbol begins here, or a comment does not end
-    NoSymbol,
+    NoSymbol = 2,
     // the symbol cannot follow those before it
-    Syntax,
+    Syntax = 3,
     // too many comments or constructs are open
-    TooDeep,
-    UnknownName,
-    NameTwice,
+    TooDeep = 4,
+    UnknownName = 5,
+    NameTwice = 6,
     // the define list names what its module does not have
-    DefineList,
+    DefineList = 7,
     // a wrong kind or type, or another rule
-    WrongKind,
-    NotChangeable,
+    WrongKind = 8,
+    NotChangeable = 9,
     // an array or record is opened outside the module of its type
-    Closed,
+    Closed = 10,
     // too many names or cells
-    TooMany,
+    TooMany = 11,
 }
 
 impl Cause {
     pub fn number(self) -> u8
         ensures { result ≡ cause_number self }
     {
-        match self {
-            Cause::TooLong => 1,
-            Cause::NoSymbol => 2,
-            Cause::Syntax => 3,
-            Cause::TooDeep => 4,
-            Cause::UnknownName => 5,
-            Cause::NameTwice => 6,
-            Cause::DefineList => 7,
-            Cause::WrongKind => 8,
-            Cause::NotChangeable => 9,
-            Cause::Closed => 10,
-            Cause::TooMany => 11,
-        }
+        self as u8
     }
 
     pub fn layer(self) -> Layer
@@ -124,12 +113,28 @@ impl fmt::Display for Fault {
     }
 }
 
+impl Error for Fault {}
+
 // Why a text could not be loaded: it has a fault, or there was no memory to hold what was read.
 #[derive(Clone, Copy, Debug, PartialEq, Eq)]
 pub enum LoadError {
     Text(Fault),
     NoMemory,
 }
+
+// The fault's line, or that memory was wanting.
+impl fmt::Display for LoadError {
+    ghost output = { λ e. Some (load_error_line e) };
+
+    fn fmt<W: fmt::Write>(&self, f: &mut fmt::Formatter<W>) -> fmt::Result {
+        match self {
+            LoadError::Text(fault) => write!(f, "{fault}"),
+            LoadError::NoMemory => write!(f, "no memory"),
+        }
+    }
+}
+
+impl Error for LoadError {}
 
 // A fault goes up through the layers as it is.
 impl From<Fault> for LoadError {
@@ -140,6 +145,7 @@ impl From<Fault> for LoadError {
     }
 }
 
+// `?` needs the two below: a string tells its want of memory by `AllocError`, a `Vec`'s push by `AllocFailed`.
 impl From<AllocError> for LoadError {
     ghost from_gives = { λ _ r. r ≡ NoMemory };
 
@@ -160,28 +166,22 @@ impl<T: Drop> From<AllocFailed<T>> for LoadError {
 #[derive(Clone, Copy, Debug, PartialEq, Eq)]
 pub enum Trap {
     // an index out of its array's bounds
-    Index,
+    Index = 31,
     // a divisor that the operator does not take
-    Divisor,
+    Divisor = 32,
     // a result beyond the integers
-    Beyond,
+    Beyond = 33,
     // the program goes too deep
-    Depth,
+    Depth = 34,
     // a cell that holds no value of its variable's type
-    Foreign,
+    Foreign = 35,
 }
 
 impl Trap {
     pub fn number(self) -> u8
         ensures { result ≡ trap_number self }
     {
-        match self {
-            Trap::Index => 31,
-            Trap::Divisor => 32,
-            Trap::Beyond => 33,
-            Trap::Depth => 34,
-            Trap::Foreign => 35,
-        }
+        self as u8
     }
 }
 
@@ -189,15 +189,13 @@ impl Trap {
 #[derive(Clone, Copy, Debug, PartialEq, Eq)]
 pub enum StoreError {
     // the store has no cell of this number
-    NoCell,
+    NoCell = 41,
 }
 
 impl StoreError {
     pub fn number(self) -> u8
         ensures { result ≡ store_error_number self }
     {
-        match self {
-            StoreError::NoCell => 41,
-        }
+        self as u8
     }
 }

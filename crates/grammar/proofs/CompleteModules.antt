@@ -129,16 +129,16 @@ parts_complete d xs ss rest h n e =
 
 -- ---- procedures
 
-marking_first : (k : Marking) (ns : List Lex) (ss mid rest : List PlacedSym) → MarkingR k ss mid → idents ns mid rest → marking (head ss).symbol ≡ k
-marking_first marked.Unmarked [] ss mid rest s h = absurd h
-marking_first marked.Unmarked (n ∷ ns) ss mid rest s h = same_first (λ x. marking x ≡ marked.Unmarked) s (first_at (λ x. marking x ≡ marked.Unmarked) h.1 refl)
-marking_first marked.Const ns ss mid rest s h = first (λ x. marking x ≡ marked.Const) s refl
-marking_first marked.Var ns ss mid rest s h = first (λ x. marking x ≡ marked.Var) s refl
+marking_first : (k : Option Marking) (ns : List Lex) (ss mid rest : List PlacedSym) → MarkingR k ss mid → idents ns mid rest → marking (head ss).symbol ≡ k
+marking_first None [] ss mid rest s h = absurd h
+marking_first None (n ∷ ns) ss mid rest s h = same_first (λ x. marking x ≡ None) s (first_at (λ x. marking x ≡ None) h.1 refl)
+marking_first (Some marked.Const) ns ss mid rest s h = first (λ x. marking x ≡ Some marked.Const) s refl
+marking_first (Some marked.Var) ns ss mid rest s h = first (λ x. marking x ≡ Some marked.Var) s refl
 
-unmarked_is : (k : Marking) (ss mid : List PlacedSym) → MarkingR k ss mid → unmarked k ss ≡ mid
-unmarked_is marked.Unmarked ss mid s = s
-unmarked_is marked.Const ss mid s = left_of s
-unmarked_is marked.Var ss mid s = left_of s
+unmarked_is : (k : Option Marking) (ss mid : List PlacedSym) → MarkingR k ss mid → unmarked k ss ≡ mid
+unmarked_is None ss mid s = s
+unmarked_is (Some marked.Const) ss mid s = left_of s
+unmarked_is (Some marked.Var) ss mid s = left_of s
 
 section_read : (x : Section) (ss rest : List PlacedSym) → SectionR x ss rest → formals_section_of ss ≡ got x rest
 unfolding formals_section_of

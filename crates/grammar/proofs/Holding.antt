@@ -9,7 +9,7 @@ use Rattle.symbol.specs.declared.mark.Mark.TheVariants as m
 use Rattle.symbol.specs.declared.word.Word.{Word}
 use Rattle.symbol.specs.declared.word.Word.TheVariants as w
 use Rattle.cursor.specs.Kinds.{mark_number, word_number, sym_is_mark, sym_is_word}
-use Rattle.cursor.specs.Reading.{Out, Reads, got, fault, after, head, tail, expect_mark, expect_word, name_in, number_in, lexeme_at, ident_of, number_of, turn, many, loop, behind, separator, list_of, idents_of}
+use Rattle.cursor.specs.Reading.{Out, Reads, got, fault, after, head, tail, expect, expect_mark, expect_word, name_in, number_in, lexeme_at, ident_of, number_of, turn, many, loop, behind, separator, list_of, idents_of}
 use Rattle.grammar.specs.Phrases.{Phrase, ◌at◌, ◌then◌, mark, word, ident, number, repeated, separated, idents}
 
 abbrev HoldsIn : {T : Type 0} → (T → List PlacedSym → Type 0) → Out T → Type 0
@@ -153,11 +153,11 @@ pub starts_word : (v : Word) (ss : List PlacedSym) → sym_is_word v (head ss).s
 starts_word v ss e = starts ss (symbol.word v) (word_is v _ e) (λ z. grind arith)
 
 pub mark_holds : (k : Mark) (ss : List PlacedSym) → Holds (λ _ rest. mark k ss rest) (expect_mark k ss)
-unfolding expect_mark
+unfolding expect
 mark_holds k ss = choose (sym_is_mark k (head ss).symbol) (λ e. done ((head ss).place, starts_mark k ss e)) (λ e. faulted)
 
 pub word_holds : (v : Word) (ss : List PlacedSym) → Holds (λ _ rest. word v ss rest) (expect_word v ss)
-unfolding expect_word
+unfolding expect
 word_holds v ss = choose (sym_is_word v (head ss).symbol) (λ e. done ((head ss).place, starts_word v ss e)) (λ e. faulted)
 
 name_in_lem : (s : Sym) (b : List ℕ) → name_in s ≡ Some b → s ≡ symbol.name b

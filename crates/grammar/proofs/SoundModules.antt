@@ -103,27 +103,27 @@ parts_sound d ss = repeated_holds part_kind (part_reader d) (PartR d) (λ o l e.
 
 -- ---- procedures
 
-const_is : (s : Sym) → marking s ≡ marked.Const → sym_is_word w.Const s ≡ true
+const_is : (s : Sym) → marking s ≡ Some marked.Const → sym_is_word w.Const s ≡ true
 const_is s e = grind (arith, nat_tests)
 
-var_is : (s : Sym) → marking s ≡ marked.Var → sym_is_word w.Var s ≡ true
+var_is : (s : Sym) → marking s ≡ Some marked.Var → sym_is_word w.Var s ≡ true
 var_is s e = grind (arith, nat_tests)
 
 pub section_sound : (ss : List PlacedSym) → Holds (λ x rest. SectionR x ss rest) (formals_section_of ss)
 unfolding formals_section_of
 section_sound ss = go (marking (head ss).symbol) refl
   where
-    from : (k : Marking) (mid : List PlacedSym) → MarkingR k ss mid → Holds (λ x rest. SectionR x ss rest) (section_from k (head ss).place mid)
+    from : (k : Option Marking) (mid : List PlacedSym) → MarkingR k ss mid → Holds (λ x rest. SectionR x ss rest) (section_from k (head ss).place mid)
     from k mid h =
         bind (idents_holds mid)
         (λ ns r1 h1. bind (mark_holds m.Colon r1)
         (λ _ r2 h2. bind (ident_holds r2)
         (λ c rest h3. done (refl, (mid, h, (r1, h1, (r2, h2, h3)))))))
 
-    go : (k : Marking) → marking (head ss).symbol ≡ k → Holds (λ x rest. SectionR x ss rest) (section_from k (head ss).place (unmarked k ss))
-    go marked.Unmarked e = from marked.Unmarked ss refl
-    go marked.Const e = from marked.Const (tail ss) ((head ss).place, starts_word w.Const ss (const_is (head ss).symbol e))
-    go marked.Var e = from marked.Var (tail ss) ((head ss).place, starts_word w.Var ss (var_is (head ss).symbol e))
+    go : (k : Option Marking) → marking (head ss).symbol ≡ k → Holds (λ x rest. SectionR x ss rest) (section_from k (head ss).place (unmarked k ss))
+    go None e = from None ss refl
+    go (Some marked.Const) e = from (Some marked.Const) (tail ss) ((head ss).place, starts_word w.Const ss (const_is (head ss).symbol e))
+    go (Some marked.Var) e = from (Some marked.Var) (tail ss) ((head ss).place, starts_word w.Var ss (var_is (head ss).symbol e))
 
 formals_of_lem : (d : ℕ) (xs : List Section) (ss mid left rest : List PlacedSym) → mark m.LeftParen ss mid → separated m.Semicolon SectionR xs mid left → mark m.RightParen left rest → FormalsR xs (suc d) ss rest
 formals_of_lem d [] ss mid left rest o h c = absurd h

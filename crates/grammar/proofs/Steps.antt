@@ -9,7 +9,7 @@ use Rattle.symbol.specs.declared.word.Word.{Word}
 use Rattle.cursor.specs.Kinds.{sym_is_mark, sym_is_word}
 use Rattle.cursor.specs.Reading.{Out, Reads, got, after, head, tail, expect_mark, expect_word, Lex, name_in, number_in, ident_of, number_of, loop, behind, separator, further_of, list_of, idents_of}
 use Rattle.cursor.proofs.Loops.{Reading, Turns, loop_stop, loop_turn, further_turns, ident_within}
-use Rattle.cursor.proofs.Steps.{mark_yes, word_yes, ident_yes, number_yes}
+use Rattle.cursor.proofs.Steps.{expect_yes, ident_yes, number_yes}
 use Rattle.grammar.specs.Phrases.{Phrase, ◌then◌, symbol_of, symbol_at, mark, word, ident, number, repeated, separated, idents}
 
 -- one reader behind another
@@ -41,10 +41,10 @@ pub word_same : (v : Word) → sym_is_word v (symbol.word v) ≡ true
 word_same v = grind (arith, nat_tests)
 
 pub mark_read : (k : Mark) (ss rest : List PlacedSym) → mark k ss rest → expect_mark k ss ≡ got tt rest
-mark_read k ss rest h = mark_yes k ss rest (first (λ s. sym_is_mark k s ≡ true) h (mark_same k)) (sym (left_of h))
+mark_read k ss rest h = expect_yes (sym_is_mark k) ss rest (first (λ s. sym_is_mark k s ≡ true) h (mark_same k)) (sym (left_of h))
 
 pub word_read : (v : Word) (ss rest : List PlacedSym) → word v ss rest → expect_word v ss ≡ got tt rest
-word_read v ss rest h = word_yes v ss rest (first (λ s. sym_is_word v s ≡ true) h (word_same v)) (sym (left_of h))
+word_read v ss rest h = expect_yes (sym_is_word v) ss rest (first (λ s. sym_is_word v s ≡ true) h (word_same v)) (sym (left_of h))
 
 pub ident_read : (n : Lex) (ss rest : List PlacedSym) → ident n ss rest → ident_of ss ≡ got n rest
 unfolding head tail

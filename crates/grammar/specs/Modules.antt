@@ -36,10 +36,10 @@ PartR d (tree.types xs) = word w.Type then repeated (TypeR d) xs
 PartR d (tree.declared xs) = word w.Var then repeated (VariablesR d) xs
 
 -- ["const" | "var"]
-abbrev pub MarkingR : Marking → Phrase
-MarkingR marked.Unmarked = nothing
-MarkingR marked.Const = word w.Const
-MarkingR marked.Var = word w.Var
+abbrev pub MarkingR : Option Marking → Phrase
+MarkingR None = nothing
+MarkingR (Some marked.Const) = word w.Const
+MarkingR (Some marked.Var) = word w.Var
 
 -- formals = ["const" | "var"] idents ":" ident
 abbrev pub SectionR : Section → Phrase

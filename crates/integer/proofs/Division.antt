@@ -1,8 +1,9 @@
--- The quotient that is rounded down: its law, that no other pair has it, and how it follows from the quotient that drops the fraction.
-use Rattle.std.proofs.Common.{◌≡◌, ℕ, zero, suc, ◌+◌, ◌-◌, ◌*◌, ◌/◌, ◌%◌, ◌<◌, true, false, ℤ, pos, negsuc, ◌+ℤ◌, ◌-ℤ◌, neg_ℤ, ◌≤ℤ◌, ◌<ℤ◌, Ok, sym, refl, ap, ◌∙◌, subst, mod-lt, mul_comm, div-add-mod', mul-suc, arith}
+-- The quotient that is rounded down: its law, and that no other pair has it.
+use Rattle.std.proofs.Common.{◌≡◌, ℕ, zero, suc, ◌+◌, ◌-◌, ◌*◌, ◌/◌, ◌%◌, ◌<◌, false, ℤ, pos, negsuc, Ok, sym, refl, ap, ◌∙◌, subst, mod-lt, mul_comm, mul-suc, arith}
 use native.Mathlib.Nat.{div-add-mod}
 use lib.Arith.{digits_div, digits_mod}
-use lib.Signed.{quot_z, rem_z, lt_z}
+use lib.Signed.{lt_z}
+use Rattle.std.specs.Int.{int_div_euclid, int_rem_euclid}
 use Rattle.std.proofs.lemmas.Int.{ints}
 use Rattle.integer.specs.Integers.{floor_pair, floored}
 use Rattle.integer.specs.Laws.{Divides, Floors, OnlyPair}
@@ -17,46 +18,12 @@ div_is a n q r e h = rw e (digits_div q h)
 mod_is : (a n q r : ℕ) → a ≡ q * suc n + r → r < suc n → a % suc n ≡ r
 mod_is a n q r e h = rw e (digits_mod q h)
 
--- below 0, with a remainder: one less
-below : (a n q r : ℕ) → suc a ≡ q * suc n + r → r < suc n → neg_ℤ (pos r) <ℤ pos 0 →
-    ◌≡◌ {A = ℤ × ℤ} (negsuc (a / suc n), pos (suc n - 1 - a % suc n)) (neg_ℤ (pos q) -ℤ pos 1, neg_ℤ (pos r) +ℤ pos (suc n))
-below a n q zero e h k = absurd (omega (arith, ints))
-below a n q (suc r) e h k =
-    let d : a / suc n ≡ q = div_is a n q r (omega arith) (omega arith) in
-    let m : a % suc n ≡ r = mod_is a n q r (omega arith) (omega arith) in
-    pairs (omega (arith, ints)) (omega (arith, ints))
-
--- below 0, with none
-even : (a n q r : ℕ) → suc a ≡ q * suc n + r → r < suc n → pos 0 ≤ℤ neg_ℤ (pos r) →
-    ◌≡◌ {A = ℤ × ℤ} (negsuc (a / suc n), pos (suc n - 1 - a % suc n)) (neg_ℤ (pos q), neg_ℤ (pos r))
-even a n q (suc r) e h k = absurd (omega (arith, ints))
-even a n zero zero e h k = absurd (omega arith)
-even a n (suc q) zero e h k =
-    let f : a ≡ q * suc n + n = omega arith in
-    let d : a / suc n ≡ q = div_is a n q n f (omega arith) in
-    let m : a % suc n ≡ n = mod_is a n q n f (omega arith) in
-    pairs (omega (arith, ints)) (omega (arith, ints))
-
-lowered : (x : ℤ) (n : ℕ) → rem_z x (pos (suc n)) <ℤ pos 0 →
-    floor_pair x (suc n) ≡ (quot_z x (pos (suc n)) -ℤ pos 1, rem_z x (pos (suc n)) +ℤ pos (suc n))
-lowered (pos a) n h = absurd (omega (arith, ints))
-lowered (negsuc a) n h = below a n (suc a / suc n) (suc a % suc n) (sym (div-add-mod' (suc a) (suc n))) (mod-lt (suc a) (omega arith)) h
-
-level : (x : ℤ) (n : ℕ) → pos 0 ≤ℤ rem_z x (pos (suc n)) →
-    floor_pair x (suc n) ≡ (quot_z x (pos (suc n)), rem_z x (pos (suc n)))
-level (pos a) n h = refl
-level (negsuc a) n h = even a n (suc a / suc n) (suc a % suc n) (sym (div-add-mod' (suc a) (suc n))) (mod-lt (suc a) (omega arith)) h
-
 -- as the code has it
-pub lowered_is : (x y : ℤ) → lt_z y (pos 1) ≡ false → lt_z (rem_z x y) (pos 0) ≡ true → Ok (quot_z x y -ℤ pos 1, rem_z x y +ℤ y) ≡ floored x y
-lowered_is x (pos zero) h k = absurd (omega (arith, ints))
-lowered_is x (pos (suc n)) h k = ap Ok (sym (lowered x n (omega (arith, ints))))
-lowered_is x (negsuc n) h k = absurd (omega (arith, ints))
-
-pub level_is : (x y : ℤ) → lt_z y (pos 1) ≡ false → lt_z (rem_z x y) (pos 0) ≡ false → Ok (quot_z x y, rem_z x y) ≡ floored x y
-level_is x (pos zero) h k = absurd (omega (arith, ints))
-level_is x (pos (suc n)) h k = ap Ok (sym (level x n (omega (arith, ints))))
-level_is x (negsuc n) h k = absurd (omega (arith, ints))
+pub floored_is : (x y : ℤ) → lt_z y (pos 1) ≡ false → Ok (int_div_euclid x y, int_rem_euclid x y) ≡ floored x y
+floored_is x (pos zero) h = absurd (omega (arith, ints))
+floored_is (pos a) (pos (suc n)) h = refl
+floored_is (negsuc a) (pos (suc n)) h = refl
+floored_is x (negsuc n) h = absurd (omega (arith, ints))
 
 -- the law of the two
 divides : (x : ℤ) (n : ℕ) → Divides x (pos (suc n)) (floor_pair x (suc n)).0 (floor_pair x (suc n)).1

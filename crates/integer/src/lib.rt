@@ -9,16 +9,14 @@ ghost use Rattle.integer.specs.Table.{Examples};
 
 use fault::Trap;
 
-const LARGEST: i64 = 2_147_483_647;
-
 // `z`, if it is an integer of the language.
 fn bound(z: i64) -> Result<i32, Trap>
     ensures { result ≡ bounded z }
 {
-    if z < -LARGEST || z > LARGEST {
-        return Err(Trap::Beyond);
+    match i32::try_from(z) {
+        Ok(n) if n != i32::MIN => Ok(n),
+        _ => Err(Trap::Beyond),
     }
-    Ok(z as i32)
 }
 
 pub fn add(x: i32, y: i32) -> Result<i32, Trap>
@@ -65,13 +63,7 @@ pub fn quotient_remainder(x: i32, y: i32) -> Result<(i32, i32), Trap>
     if y < 1 {
         return Err(Trap::Divisor);
     }
-    let q = x / y;
-    let r = x % y;
-    if r < 0 {
-        Ok((q - 1, r + y))
-    } else {
-        Ok((q, r))
-    }
+    Ok((x.div_euclid(y), x.rem_euclid(y)))
 }
 
 // `div`: of the least number of 32 bits the quotient may be beyond the integers.

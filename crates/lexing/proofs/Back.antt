@@ -1,14 +1,15 @@
 -- Gaps and symbols are read back as what they are. Assumes nothing.
-use Rattle.std.proofs.Common.{◌≡◌, ℕ, zero, suc, ◌+◌, ◌-◌, ◌<◌, ◌≤◌, Bool, true, false, cond, eqb, leb, ◌⊎◌, List, [], ◌∷◌, ◌++◌, map, length, get_or, take, drop, Some, None, Ok, Option, sym, refl, ap, ◌∙◌, subst, inl, inr, add-zero, add_assoc, add-one, arith, length-append, eqb-true}
+use Rattle.std.proofs.Common.{◌≡◌, ℕ, zero, suc, ◌+◌, ◌-◌, ◌<◌, ◌≤◌, Bool, true, false, cond, eqb, leb, ◌⊎◌, List, [], ◌∷◌, ◌++◌, map, length, get_or, take, drop, Some, None, Ok, Option, sym, refl, ap, ◌∙◌, subst, inl, inr, add-zero, add_assoc, add-one, arith, length-append, eqb-true, rules}
 use Rattle.std.proofs.lemmas.List.{get_or_append_left, get_or-append-add, take-append-le, take_all}
 use Rattle.std.proofs.lemmas.Bool.Decides.{nat_tests}
 use Rattle.std.specs.Char.{is_ascii_alphanumeric, is_ascii_alphabetic, is_ascii_digit, to_ascii_lowercase}
+use Rattle.std.specs.List.{find}
+use Rattle.std.specs.Str.{bytes_eq}
 use Rattle.symbol.specs.declared.word.Word.{Word}
-use Rattle.symbol.specs.declared.word.Word.TheVariants as w
 use Rattle.symbol.specs.declared.mark.Mark.{Mark}
 use Rattle.symbol.specs.declared.mark.Mark.TheVariants as m
 use Rattle.symbol.specs.Symbols.{Sym, name, number, character, word, mark, ending}
-use Rattle.symbol.specs.Words.{word_spelling, mark_spelling, words, word_among, reserved}
+use Rattle.symbol.specs.Words.{word_spelling, mark_spelling, words, reserved}
 use Rattle.symbol.specs.Values.{digit_in, all_digits, digits_value_of, front, last_letter, number_value_of, ordinal_value_of, quoted_value_of, plainly_quoted, quoted_quote, character_value_of}
 use Rattle.symbol.proofs.Reserved.{reserves, spelling_small}
 use Rattle.scanner.specs.declared.gap.Move.{Move}
@@ -88,119 +89,13 @@ letter_small : (b : ℕ) → is_ascii_alphabetic (to_ascii_lowercase b) ≡ true
 letter_small b e = grind (arith, nat_tests)
 
 spelling_letter : (x : Word) → is_ascii_alphabetic (get_or (word_spelling x) 0 0) ≡ true
-spelling_letter w.And = refl
-spelling_letter w.Array = refl
-spelling_letter w.Begin = refl
-spelling_letter w.Case = refl
-spelling_letter w.Const = refl
-spelling_letter w.Define = refl
-spelling_letter w.Device = refl
-spelling_letter w.Div = refl
-spelling_letter w.Do = refl
-spelling_letter w.Else = refl
-spelling_letter w.Elsif = refl
-spelling_letter w.End = refl
-spelling_letter w.Exit = refl
-spelling_letter w.If = refl
-spelling_letter w.Interface = refl
-spelling_letter w.Loop = refl
-spelling_letter w.Mod = refl
-spelling_letter w.Module = refl
-spelling_letter w.Not = refl
-spelling_letter w.Of = refl
-spelling_letter w.Or = refl
-spelling_letter w.Procedure = refl
-spelling_letter w.Process = refl
-spelling_letter w.Record = refl
-spelling_letter w.Repeat = refl
-spelling_letter w.Then = refl
-spelling_letter w.Type = refl
-spelling_letter w.Until = refl
-spelling_letter w.Use = refl
-spelling_letter w.Value = refl
-spelling_letter w.Var = refl
-spelling_letter w.When = refl
-spelling_letter w.While = refl
-spelling_letter w.With = refl
-spelling_letter w.Xor = refl
+spelling_letter x = search rules
 
 pub spelling_short : (x : Word) → (0 < length (word_spelling x)) × (length (word_spelling x) ≤ 24)
-spelling_short w.And = (omega arith, omega arith)
-spelling_short w.Array = (omega arith, omega arith)
-spelling_short w.Begin = (omega arith, omega arith)
-spelling_short w.Case = (omega arith, omega arith)
-spelling_short w.Const = (omega arith, omega arith)
-spelling_short w.Define = (omega arith, omega arith)
-spelling_short w.Device = (omega arith, omega arith)
-spelling_short w.Div = (omega arith, omega arith)
-spelling_short w.Do = (omega arith, omega arith)
-spelling_short w.Else = (omega arith, omega arith)
-spelling_short w.Elsif = (omega arith, omega arith)
-spelling_short w.End = (omega arith, omega arith)
-spelling_short w.Exit = (omega arith, omega arith)
-spelling_short w.If = (omega arith, omega arith)
-spelling_short w.Interface = (omega arith, omega arith)
-spelling_short w.Loop = (omega arith, omega arith)
-spelling_short w.Mod = (omega arith, omega arith)
-spelling_short w.Module = (omega arith, omega arith)
-spelling_short w.Not = (omega arith, omega arith)
-spelling_short w.Of = (omega arith, omega arith)
-spelling_short w.Or = (omega arith, omega arith)
-spelling_short w.Procedure = (omega arith, omega arith)
-spelling_short w.Process = (omega arith, omega arith)
-spelling_short w.Record = (omega arith, omega arith)
-spelling_short w.Repeat = (omega arith, omega arith)
-spelling_short w.Then = (omega arith, omega arith)
-spelling_short w.Type = (omega arith, omega arith)
-spelling_short w.Until = (omega arith, omega arith)
-spelling_short w.Use = (omega arith, omega arith)
-spelling_short w.Value = (omega arith, omega arith)
-spelling_short w.Var = (omega arith, omega arith)
-spelling_short w.When = (omega arith, omega arith)
-spelling_short w.While = (omega arith, omega arith)
-spelling_short w.With = (omega arith, omega arith)
-spelling_short w.Xor = (omega arith, omega arith)
+spelling_short x = search rules
 
 spelling_reserved : (x : Word) → reserved (word_spelling x) ≡ Some x
-spelling_reserved w.And = refl
-spelling_reserved w.Array = refl
-spelling_reserved w.Begin = refl
-spelling_reserved w.Case = refl
-spelling_reserved w.Const = refl
-spelling_reserved w.Define = refl
-spelling_reserved w.Device = refl
-spelling_reserved w.Div = refl
-spelling_reserved w.Do = refl
-spelling_reserved w.Else = refl
-spelling_reserved w.Elsif = refl
-spelling_reserved w.End = refl
-spelling_reserved w.Exit = refl
-spelling_reserved w.If = refl
-spelling_reserved w.Interface = refl
-spelling_reserved w.Loop = refl
-spelling_reserved w.Mod = refl
-spelling_reserved w.Module = refl
-spelling_reserved w.Not = refl
-spelling_reserved w.Of = refl
-spelling_reserved w.Or = refl
-spelling_reserved w.Procedure = refl
-spelling_reserved w.Process = refl
-spelling_reserved w.Record = refl
-spelling_reserved w.Repeat = refl
-spelling_reserved w.Then = refl
-spelling_reserved w.Type = refl
-spelling_reserved w.Until = refl
-spelling_reserved w.Use = refl
-spelling_reserved w.Value = refl
-spelling_reserved w.Var = refl
-spelling_reserved w.When = refl
-spelling_reserved w.While = refl
-spelling_reserved w.With = refl
-spelling_reserved w.Xor = refl
-
-among_same : (ws : List Word) (cs bs : List ℕ) → map to_ascii_lowercase cs ≡ map to_ascii_lowercase bs → word_among ws cs ≡ word_among ws bs
-among_same [] cs bs e = refl
-among_same (x ∷ ws) cs bs e = rw (among_same ws cs bs e, e)
+spelling_reserved x = search rules
 
 pub length_lower : (bs : List ℕ) → length (map to_ascii_lowercase bs) ≡ length bs
 length_lower [] = refl
@@ -368,25 +263,7 @@ mark_back m.Colon rest long =
 mark_back m.Semicolon rest long = refl
 
 mark_plain : (x : Mark) (rest : List ℕ) → (is_ascii_alphabetic (get_or (mark_spelling x ++ rest) 0 0) ≡ false) × (is_ascii_digit (get_or (mark_spelling x ++ rest) 0 0) ≡ false) × (eqb (get_or (mark_spelling x ++ rest) 0 0) 34 ≡ false)
-mark_plain m.Plus rest = (refl, refl, refl)
-mark_plain m.Minus rest = (refl, refl, refl)
-mark_plain m.Times rest = (refl, refl, refl)
-mark_plain m.Slash rest = (refl, refl, refl)
-mark_plain m.Equal rest = (refl, refl, refl)
-mark_plain m.NotEqual rest = (refl, refl, refl)
-mark_plain m.Less rest = (refl, refl, refl)
-mark_plain m.LessEqual rest = (refl, refl, refl)
-mark_plain m.Greater rest = (refl, refl, refl)
-mark_plain m.GreaterEqual rest = (refl, refl, refl)
-mark_plain m.Becomes rest = (refl, refl, refl)
-mark_plain m.LeftParen rest = (refl, refl, refl)
-mark_plain m.RightParen rest = (refl, refl, refl)
-mark_plain m.LeftBracket rest = (refl, refl, refl)
-mark_plain m.RightBracket rest = (refl, refl, refl)
-mark_plain m.Dot rest = (refl, refl, refl)
-mark_plain m.Comma rest = (refl, refl, refl)
-mark_plain m.Colon rest = (refl, refl, refl)
-mark_plain m.Semicolon rest = (refl, refl, refl)
+mark_plain x rest = search rules
 
 -- ---- every symbol
 
@@ -421,7 +298,7 @@ reserved_back x part rest e apart =
     let hi = short.1 in
     let some : 0 < length part = omega arith in
     let letter : is_ascii_alphabetic (get_or part 0 0) ≡ true = letter_small (get_or part 0 0) (ap is_ascii_alphabetic (sym (lower_first part some)) ∙ ap (λ xs. is_ascii_alphabetic (get_or xs 0 0)) e ∙ spelling_letter x) in
-    let found : reserved part ≡ Some x = among_same words part (word_spelling x) (e ∙ sym (spelling_small x)) ∙ spelling_reserved x in
+    let found : reserved part ≡ Some x = ap (λ l. find (λ y. bytes_eq l (map to_ascii_lowercase (word_spelling y))) words) (e ∙ sym (spelling_small x)) ∙ spelling_reserved x in
     word_back part rest (word_alnum x part e) apart letter some (omega arith) ∙ ap (λ o. Some (word_or o part, length part)) found
 
 pub symbol_reads : (s : Sym) (part rest : List ℕ) → Spells s part → Longest (length part) (part ++ rest) → Apart s rest → begins (part ++ rest) ≡ Some (s, length part)

@@ -1,5 +1,5 @@
 -- The marks: each is the longest that begins there. Assumes nothing.
-use Rattle.std.proofs.Common.{◌≡◌, ℕ, zero, suc, ◌<◌, ◌≤◌, Bool, true, false, cond, eqb, List, [], ◌∷◌, length, get_or, take, drop, Some, None, sym, refl, ap, ◌∙◌, subst, arith, eqb-true}
+use Rattle.std.proofs.Common.{◌≡◌, ℕ, zero, suc, ◌<◌, ◌≤◌, Bool, true, false, cond, eqb, List, [], ◌∷◌, length, get_or, take, drop, Some, None, sym, refl, ap, ◌∙◌, subst, arith, eqb-true, rules}
 use Rattle.std.proofs.lemmas.List.{length-take-le, get_or-take, get_or-drop}
 use Rattle.std.specs.Char.{is_ascii_alphanumeric}
 use Rattle.symbol.specs.declared.mark.Mark.{Mark}
@@ -69,47 +69,11 @@ module _ (bs : List ℕ) (some : 0 < length bs) where
 -- ---- no longer mark begins there
 
 doubled : (x : Mark) → 2 ≤ length (mark_spelling x) → begins_mark (get_or (mark_spelling x) 0 0) (get_or (mark_spelling x) 1 0) ≡ Some (mark x, 2)
-doubled m.Plus h = absurd (omega arith)
-doubled m.Minus h = absurd (omega arith)
-doubled m.Times h = absurd (omega arith)
-doubled m.Slash h = absurd (omega arith)
-doubled m.Equal h = absurd (omega arith)
-doubled m.NotEqual h = refl
-doubled m.Less h = absurd (omega arith)
-doubled m.LessEqual h = refl
-doubled m.Greater h = absurd (omega arith)
-doubled m.GreaterEqual h = refl
-doubled m.Becomes h = refl
-doubled m.LeftParen h = absurd (omega arith)
-doubled m.RightParen h = absurd (omega arith)
-doubled m.LeftBracket h = absurd (omega arith)
-doubled m.RightBracket h = absurd (omega arith)
-doubled m.Dot h = absurd (omega arith)
-doubled m.Comma h = absurd (omega arith)
-doubled m.Colon h = absurd (omega arith)
-doubled m.Semicolon h = absurd (omega arith)
+doubled x h = search rules
 
 -- no mark of two bytes begins like a comment
 unopened_two : (x : Mark) (c : ℕ) → 2 ≤ length (mark_spelling x) → opening (get_or (mark_spelling x) 0 0) c ≡ false
-unopened_two m.Plus c h = absurd (omega arith)
-unopened_two m.Minus c h = absurd (omega arith)
-unopened_two m.Times c h = absurd (omega arith)
-unopened_two m.Slash c h = absurd (omega arith)
-unopened_two m.Equal c h = absurd (omega arith)
-unopened_two m.NotEqual c h = refl
-unopened_two m.Less c h = absurd (omega arith)
-unopened_two m.LessEqual c h = refl
-unopened_two m.Greater c h = absurd (omega arith)
-unopened_two m.GreaterEqual c h = refl
-unopened_two m.Becomes c h = refl
-unopened_two m.LeftParen c h = absurd (omega arith)
-unopened_two m.RightParen c h = absurd (omega arith)
-unopened_two m.LeftBracket c h = absurd (omega arith)
-unopened_two m.RightBracket c h = absurd (omega arith)
-unopened_two m.Dot c h = absurd (omega arith)
-unopened_two m.Comma c h = absurd (omega arith)
-unopened_two m.Colon c h = absurd (omega arith)
-unopened_two m.Semicolon c h = absurd (omega arith)
+unopened_two x c h = search rules
 
 -- what stands behind the n bytes of a mark opens no comment with it
 module _ (bs : List ℕ) (unopened : opening (get_or bs 0 0) (get_or bs 1 0) ≡ false) where

@@ -1,10 +1,9 @@
 -- A text can be parted into gaps and symbols in one way only, and that is how it is read. Assumes nothing.
-use Rattle.std.proofs.Common.{◌≡◌, ℕ, zero, suc, ◌+◌, ◌-◌, ◌<◌, ◌≤◌, Bool, true, false, cond, eqb, ◌⊎◌, List, [], ◌∷◌, ◌++◌, map, length, get_or, drop, Some, Ok, sym, refl, ap, ◌∙◌, subst, inl, inr, arith, length-append, length-drop}
+use Rattle.std.proofs.Common.{◌≡◌, ℕ, zero, suc, ◌+◌, ◌-◌, ◌<◌, ◌≤◌, Bool, true, false, cond, eqb, ◌⊎◌, List, [], ◌∷◌, ◌++◌, map, length, get_or, drop, Some, Ok, sym, refl, ap, ◌∙◌, subst, inl, inr, arith, length-append, length-drop, rules}
 use Rattle.std.proofs.lemmas.List.{append-nil, drop-drop}
 use Rattle.std.proofs.lemmas.Bool.Decides.{nat_tests}
 use Rattle.std.specs.Char.{is_ascii_alphanumeric, is_ascii_alphabetic, to_ascii_lowercase}
 use Rattle.symbol.specs.declared.mark.Mark.{Mark}
-use Rattle.symbol.specs.declared.mark.Mark.TheVariants as m
 use Rattle.symbol.specs.declared.word.Word.{Word}
 use Rattle.symbol.specs.Symbols.{Sym, name, number, character, word, mark, ending, PlacedSym}
 use Rattle.symbol.specs.Words.{mark_spelling, word_spelling}
@@ -14,7 +13,6 @@ use Rattle.scanner.specs.Gaps.{move_of, gap}
 use Rattle.scanner.specs.Fronts.{begins}
 use Rattle.scanner.specs.Scan.{step_to, scan}
 use Rattle.scanner.proofs.Scans.{scan_end, scan_some}
-use Rattle.lexing.specs.declared.Stop.TheVariants as stopped
 use Rattle.lexing.specs.Reading.{Reading, sym_is_ending, before, follow, read_from, symbols_of}
 use Rattle.lexing.specs.Spelling.{letters_or_digits, Spells, Apart, Gap}
 use Rattle.lexing.specs.Laws.{Woven, Lexed, Laws}
@@ -36,46 +34,10 @@ quote_halts : (b c : ℕ) → b ≡ 34 → move_of 0 b c ≡ to.Stop
 quote_halts b c e = grind (arith, nat_tests)
 
 mark_halts : (x : Mark) (rest : List ℕ) → Apart (mark x) rest → move_of 0 (get_or (mark_spelling x ++ rest) 0 0) (get_or (mark_spelling x ++ rest) 1 0) ≡ to.Stop
-mark_halts m.Plus rest a = refl
-mark_halts m.Minus rest a = refl
-mark_halts m.Times rest a = refl
-mark_halts m.Slash rest a = refl
-mark_halts m.Equal rest a = refl
-mark_halts m.NotEqual rest a = refl
-mark_halts m.Less rest a = refl
-mark_halts m.LessEqual rest a = refl
-mark_halts m.Greater rest a = refl
-mark_halts m.GreaterEqual rest a = refl
-mark_halts m.Becomes rest a = refl
-mark_halts m.LeftParen rest a = rw a
-mark_halts m.RightParen rest a = refl
-mark_halts m.LeftBracket rest a = refl
-mark_halts m.RightBracket rest a = refl
-mark_halts m.Dot rest a = refl
-mark_halts m.Comma rest a = refl
-mark_halts m.Colon rest a = refl
-mark_halts m.Semicolon rest a = refl
+mark_halts x rest a = search rules
 
 mark_some : (x : Mark) → 0 < length (mark_spelling x)
-mark_some m.Plus = omega arith
-mark_some m.Minus = omega arith
-mark_some m.Times = omega arith
-mark_some m.Slash = omega arith
-mark_some m.Equal = omega arith
-mark_some m.NotEqual = omega arith
-mark_some m.Less = omega arith
-mark_some m.LessEqual = omega arith
-mark_some m.Greater = omega arith
-mark_some m.GreaterEqual = omega arith
-mark_some m.Becomes = omega arith
-mark_some m.LeftParen = omega arith
-mark_some m.RightParen = omega arith
-mark_some m.LeftBracket = omega arith
-mark_some m.RightBracket = omega arith
-mark_some m.Dot = omega arith
-mark_some m.Comma = omega arith
-mark_some m.Colon = omega arith
-mark_some m.Semicolon = omega arith
+mark_some x = search rules
 
 -- a character has bytes, and begins with a quote or a digit
 character_says : (part : List ℕ) (v : ℕ) → character_value_of part ≡ Some v → (0 < length part) × ((get_or part 0 0 ≡ 34) ⊎ (is_ascii_alphanumeric (get_or part 0 0) ≡ true))
@@ -178,7 +140,7 @@ module _ (text : List ℕ) (at : ℕ) (within : at ≤ length text) where
         let front = ap begins here ∙ symbol_reads s.symbol w.part rest w.spelled w.longest w.apart in
         scan_some text at s.place passed below s.symbol (length w.part) (sym front)
 
-pub only_from : (n : ℕ) (text : List ℕ) (at : ℕ) → at ≤ length text → length text - at < n → (ts : List PlacedSym) (k : ℕ) → Lexed at (drop at text) ts (stopped.End k) → read_from n text at ≡ record { list = ts; stop = stopped.End k }
+pub only_from : (n : ℕ) (text : List ℕ) (at : ℕ) → at ≤ length text → length text - at < n → (ts : List PlacedSym) (k : ℕ) → Lexed at (drop at text) ts (Ok k) → read_from n text at ≡ record { list = ts; stop = Ok k }
 unfolding read_from
 only_from zero text at w h ts k l = absurd (omega arith)
 only_from (suc n) text at w h [] k l = ap (follow (read_from n text)) (sym (ends text at w k l.0 l.1))
@@ -189,12 +151,12 @@ only_from (suc n) text at w h (s ∷ ss) k l =
     let ahead = onward text at w s rest v in
     let bytes = some text at w s rest v in
     let inside = fits text at w s rest v in
-    let more = only_from n text j inside (omega arith) ss k (subst (λ xs. Lexed j xs ss (stopped.End k)) (sym (behind text at w s rest v)) l.2) in
+    let more = only_from n text j inside (omega arith) ss k (subst (λ xs. Lexed j xs ss (Ok k)) (sym (behind text at w s rest v)) l.2) in
     ap (follow (read_from n text)) (sym (takes text at w s rest v))
     ∙ follow_symbol (read_from n text) s.symbol s.place j (proper s.symbol v.part v.spelled)
     ∙ ap (before s) more
 
-pub only : (text : List ℕ) (ts : List PlacedSym) (k : ℕ) → Lexed 0 text ts (stopped.End k) → symbols_of text ≡ record { list = ts; stop = stopped.End k }
+pub only : (text : List ℕ) (ts : List PlacedSym) (k : ℕ) → Lexed 0 text ts (Ok k) → symbols_of text ≡ record { list = ts; stop = Ok k }
 only text ts k l = only_from (suc (length text)) text 0 (omega arith) (omega arith) ts k l
 
 -- ---- all laws of a text that was read

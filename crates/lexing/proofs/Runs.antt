@@ -1,12 +1,10 @@
 -- Runs of letters and digits: what has one, and where it ends. Assumes nothing.
-use Rattle.std.proofs.Common.{◌≡◌, ℕ, zero, suc, ◌+◌, ◌-◌, ◌<◌, ◌≤◌, Bool, true, false, cond, ◌&&◌, eqb, ltb, leb, List, [], ◌∷◌, ◌++◌, map, length, get_or, take, drop, Some, None, sym, refl, ap, ◌∙◌, subst, one-add, arith}
+use Rattle.std.proofs.Common.{◌≡◌, ℕ, zero, suc, ◌+◌, ◌-◌, ◌<◌, ◌≤◌, Bool, true, false, cond, ◌&&◌, eqb, ltb, leb, List, [], ◌∷◌, ◌++◌, map, length, get_or, take, drop, Some, None, sym, refl, ap, ◌∙◌, subst, one-add, arith, rules}
 use Rattle.std.proofs.lemmas.List.{take_more, take_all}
 use Rattle.std.proofs.lemmas.Bool.Decides.{nat_tests}
 use Rattle.std.specs.Char.{is_ascii_alphanumeric, to_ascii_lowercase}
 use Rattle.symbol.specs.declared.word.Word.{Word}
-use Rattle.symbol.specs.declared.word.Word.TheVariants as w
 use Rattle.symbol.specs.declared.mark.Mark.{Mark}
-use Rattle.symbol.specs.declared.mark.Mark.TheVariants as m
 use Rattle.symbol.specs.Words.{word_spelling, mark_spelling}
 use Rattle.symbol.specs.Values.{digit_in, all_digits, positional, digits_value_of, front, last_letter, number_value_of, ordinal_value_of}
 use Rattle.scanner.specs.Fronts.{run}
@@ -108,84 +106,14 @@ lower_alnum (b ∷ bs) e =
     rw (small_alnum b parts.0, lower_alnum bs parts.1)
 
 spelling_alnum : (x : Word) → letters_or_digits (word_spelling x) ≡ true
-spelling_alnum w.And = refl
-spelling_alnum w.Array = refl
-spelling_alnum w.Begin = refl
-spelling_alnum w.Case = refl
-spelling_alnum w.Const = refl
-spelling_alnum w.Define = refl
-spelling_alnum w.Device = refl
-spelling_alnum w.Div = refl
-spelling_alnum w.Do = refl
-spelling_alnum w.Else = refl
-spelling_alnum w.Elsif = refl
-spelling_alnum w.End = refl
-spelling_alnum w.Exit = refl
-spelling_alnum w.If = refl
-spelling_alnum w.Interface = refl
-spelling_alnum w.Loop = refl
-spelling_alnum w.Mod = refl
-spelling_alnum w.Module = refl
-spelling_alnum w.Not = refl
-spelling_alnum w.Of = refl
-spelling_alnum w.Or = refl
-spelling_alnum w.Procedure = refl
-spelling_alnum w.Process = refl
-spelling_alnum w.Record = refl
-spelling_alnum w.Repeat = refl
-spelling_alnum w.Then = refl
-spelling_alnum w.Type = refl
-spelling_alnum w.Until = refl
-spelling_alnum w.Use = refl
-spelling_alnum w.Value = refl
-spelling_alnum w.Var = refl
-spelling_alnum w.When = refl
-spelling_alnum w.While = refl
-spelling_alnum w.With = refl
-spelling_alnum w.Xor = refl
+spelling_alnum x = search rules
 
 pub word_alnum : (x : Word) (bs : List ℕ) → map to_ascii_lowercase bs ≡ word_spelling x → letters_or_digits bs ≡ true
 word_alnum x bs e = lower_alnum bs (ap letters_or_digits e ∙ spelling_alnum x)
 
 -- no mark begins like a word, a number or a character
 pub mark_first : (x : Mark) → (is_ascii_alphanumeric (get_or (mark_spelling x) 0 0) ≡ false) × (eqb (get_or (mark_spelling x) 0 0) 34 ≡ false)
-mark_first m.Plus = (refl, refl)
-mark_first m.Minus = (refl, refl)
-mark_first m.Times = (refl, refl)
-mark_first m.Slash = (refl, refl)
-mark_first m.Equal = (refl, refl)
-mark_first m.NotEqual = (refl, refl)
-mark_first m.Less = (refl, refl)
-mark_first m.LessEqual = (refl, refl)
-mark_first m.Greater = (refl, refl)
-mark_first m.GreaterEqual = (refl, refl)
-mark_first m.Becomes = (refl, refl)
-mark_first m.LeftParen = (refl, refl)
-mark_first m.RightParen = (refl, refl)
-mark_first m.LeftBracket = (refl, refl)
-mark_first m.RightBracket = (refl, refl)
-mark_first m.Dot = (refl, refl)
-mark_first m.Comma = (refl, refl)
-mark_first m.Colon = (refl, refl)
-mark_first m.Semicolon = (refl, refl)
+mark_first x = search rules
 
 pub mark_short : (x : Mark) → length (mark_spelling x) ≤ 2
-mark_short m.Plus = omega arith
-mark_short m.Minus = omega arith
-mark_short m.Times = omega arith
-mark_short m.Slash = omega arith
-mark_short m.Equal = omega arith
-mark_short m.NotEqual = omega arith
-mark_short m.Less = omega arith
-mark_short m.LessEqual = omega arith
-mark_short m.Greater = omega arith
-mark_short m.GreaterEqual = omega arith
-mark_short m.Becomes = omega arith
-mark_short m.LeftParen = omega arith
-mark_short m.RightParen = omega arith
-mark_short m.LeftBracket = omega arith
-mark_short m.RightBracket = omega arith
-mark_short m.Dot = omega arith
-mark_short m.Comma = omega arith
-mark_short m.Colon = omega arith
-mark_short m.Semicolon = omega arith
+mark_short x = search rules

@@ -6,7 +6,6 @@ use Rattle.symbol.specs.declared.Symbol.{Symbol}
 use Rattle.symbol.specs.declared.Symbol.TheVariants as coded
 use Rattle.symbol.specs.Symbols.{ending, PlacedSym, sym_of, placed_of}
 use Rattle.scanner.specs.Scan.{Step, scan}
-use Rattle.lexing.specs.declared.Stop.TheVariants as stopped
 use Rattle.lexing.specs.Reading.{Reading, sym_is_ending, before, symbols_of}
 use Rattle.lexing.proofs.Steps.{Ended, Took, step_case}
 use Rattle.lexing.proofs.Whole.{good, rest, rest_fault, rest_ended, rest_took, onto, onto_push, onto_stop}
@@ -27,18 +26,18 @@ apart : (b : Bool) → b ≡ true → b ≡ false → ⊥
 apart b e f = let z : ◌≡◌ {A = ℕ} 0 1 = cc in omega arith
 
 module _ (text : List ℕ) (at : ℕ) (ss : List PlacedSym) (whole : onto ss (rest text at) ≡ symbols_of text) where
-  pub by_fault : (f : Fault) → Err f ≡ scan text at → ◌≡◌ {A = Reading} (record { list = ss; stop = stopped.Fault f }) (symbols_of text)
-  by_fault f e = sym (onto_stop ss (stopped.Fault f)) ∙ ap (onto ss) (sym (rest_fault text at f (sym e))) ∙ whole
+  pub by_fault : (f : Fault) → Err f ≡ scan text at → ◌≡◌ {A = Reading} (record { list = ss; stop = Err f }) (symbols_of text)
+  by_fault f e = sym (onto_stop ss (Err f)) ∙ ap (onto ss) (sym (rest_fault text at f (sym e))) ∙ whole
 
   module _ (p : PlacedSym) (j : ℕ) (e : Ok (record { read = p; behind = j }) ≡ scan text at) where
-    pub by_end : sym_is_ending p.symbol ≡ true → ◌≡◌ {A = Reading} (record { list = ss; stop = stopped.End p.place }) (symbols_of text)
+    pub by_end : sym_is_ending p.symbol ≡ true → ◌≡◌ {A = Reading} (record { list = ss; stop = Ok p.place }) (symbols_of text)
     by_end h = go (step_case text at (record { read = p; behind = j }) (sym e))
       where
-        go : Ended text at (record { read = p; behind = j }) ⊎ Took text at (record { read = p; behind = j }) → ◌≡◌ {A = Reading} (record { list = ss; stop = stopped.End p.place }) (symbols_of text)
+        go : Ended text at (record { read = p; behind = j }) ⊎ Took text at (record { read = p; behind = j }) → ◌≡◌ {A = Reading} (record { list = ss; stop = Ok p.place }) (symbols_of text)
         go (inl d) =
             let place : p.place ≡ d.place = ap (λ (s : Step). s.read.place) d.is in
-            ap (λ k. record { list = ss; stop = stopped.End k }) place
-            ∙ sym (onto_stop ss (stopped.End d.place)) ∙ ap (onto ss) (sym (rest_ended text at _ (sym e) d)) ∙ whole
+            ap (λ k. record { list = ss; stop = Ok k }) place
+            ∙ sym (onto_stop ss (Ok d.place)) ∙ ap (onto ss) (sym (rest_ended text at _ (sym e) d)) ∙ whole
         go (inr t) =
             let is : p.symbol ≡ t.symbol = ap (λ (s : Step). s.read.symbol) t.is in
             absurd (apart (sym_is_ending t.symbol) (ap sym_is_ending (sym is) ∙ h) (good text at _ t).proper)

@@ -6,9 +6,7 @@ use Rattle.symbol.specs.Symbols.{Sym, PlacedSym}
 use Rattle.scanner.specs.Gaps.{opening}
 use Rattle.scanner.specs.Scan.{Step, step_to, scan}
 use Rattle.scanner.proofs.Within.{Within, gap_within}
-use Rattle.lexing.specs.declared.Stop.{Stop}
-use Rattle.lexing.specs.declared.Stop.TheVariants as stopped
-use Rattle.lexing.specs.Reading.{Reading, sym_is_ending, stopped_at, before, follow, read_from, symbols_of}
+use Rattle.lexing.specs.Reading.{Stop, Reading, sym_is_ending, stopped_at, before, follow, read_from, symbols_of}
 use Rattle.lexing.specs.Spelling.{Gap, Longest, Apart}
 use Rattle.lexing.specs.Laws.{Woven, Stops, Lexed}
 use Rattle.lexing.proofs.Blanks.{gap_blanks, gap_halts, halt_says}
@@ -34,7 +32,7 @@ good text at s t =
     begins_good (drop t.place text) t.symbol t.size (omega arith) unopened t.front
 
 module _ (text : List ℕ) (at : ℕ) (s : Step) (more : ℕ → Reading) where
-  pub follow_ended : (e : Ended text at s) → follow more (Ok s) ≡ stopped_at (stopped.End e.place)
+  pub follow_ended : (e : Ended text at s) → follow more (Ok s) ≡ stopped_at (Ok e.place)
   follow_ended e = ap (λ x. follow more (Ok x)) e.is
 
   pub follow_took : (t : Took text at s) → follow more (Ok s) ≡ before (record { symbol = t.symbol; place = t.place }) (more (t.place + t.size))
@@ -75,10 +73,10 @@ module _ (text : List ℕ) (at : ℕ) where
   unfolding rest read_from
   rest_is r e = ap (follow (read_from (length text - at) text)) e
 
-  pub rest_fault : (f : Fault) → scan text at ≡ Err f → rest text at ≡ stopped_at (stopped.Fault f)
+  pub rest_fault : (f : Fault) → scan text at ≡ Err f → rest text at ≡ stopped_at (Err f)
   rest_fault f e = rest_is (Err f) e
 
-  pub rest_ended : (s : Step) → scan text at ≡ Ok s → (e : Ended text at s) → rest text at ≡ stopped_at (stopped.End e.place)
+  pub rest_ended : (s : Step) → scan text at ≡ Ok s → (e : Ended text at s) → rest text at ≡ stopped_at (Ok e.place)
   rest_ended s e d = rest_is (Ok s) e ∙ follow_ended text at s (read_from (length text - at) text) d
 
   pub rest_took : (s : Step) → scan text at ≡ Ok s → (t : Took text at s) → rest text at ≡ before (record { symbol = t.symbol; place = t.place }) (rest text (t.place + t.size))
@@ -95,7 +93,7 @@ module _ (text : List ℕ) (at : ℕ) where
 
 module _ (text : List ℕ) (at : ℕ) (within : at ≤ length text) (s : Step) where
   -- the last gap goes to the text's end
-  stops_end : (e : Ended text at s) → Stops at (drop at text) (stopped.End e.place)
+  stops_end : (e : Ended text at s) → Stops at (drop at text) (Ok e.place)
   stops_end e =
       let left = length-drop at text in
       let over = e.over in

@@ -1,14 +1,12 @@
 -- Worked examples of the definitions: values of numbers and characters, and the symbols of small texts.
-use Rattle.std.specs.Prelude.{◌≡◌, ℕ, List, [], ◌∷◌, Some, None, codes, Option}
+use Rattle.std.specs.Prelude.{◌≡◌, ℕ, List, [], ◌∷◌, Some, None, Ok, Err, codes, Option}
 use Rattle.fault.specs.declared.Cause.TheVariants.{NoSymbol}
 use Rattle.fault.specs.Numbers.{fault_at}
 use Rattle.symbol.specs.declared.mark.Mark.TheVariants as m
 use Rattle.symbol.specs.declared.word.Word.TheVariants as w
 use Rattle.symbol.specs.Symbols.{Sym, name, number, word, mark, PlacedSym}
 use Rattle.symbol.specs.Values.{number_value_of, character_value_of}
-use Rattle.lexing.specs.declared.Stop.{Stop}
-use Rattle.lexing.specs.declared.Stop.TheVariants as stopped
-use Rattle.lexing.specs.Reading.{Reading, symbols_of}
+use Rattle.lexing.specs.Reading.{Stop, Reading, symbols_of}
 
 abbrev pub placed : Sym → ℕ → PlacedSym
 placed s k = record { symbol = s; place = k }
@@ -31,10 +29,10 @@ pub record Examples : Type 0 where
   pub last_character : character_value_of (codes "177C") ≡ Some 127
   pub no_character : ◌≡◌ {A = Option ℕ} (character_value_of (codes "200C")) None
   -- the end of an inner comment does not end the outer one
-  pub inner : symbols_of (codes "(* (* *) a *) b") ≡ reading (placed (name (codes "b")) 14 ∷ []) (stopped.End 15)
-  pub unended : symbols_of (codes "(* (* *)") ≡ reading [] (stopped.Fault (fault_at NoSymbol 8))
-  pub not_ended : symbols_of (codes "(*)") ≡ reading [] (stopped.Fault (fault_at NoSymbol 3))
+  pub inner : symbols_of (codes "(* (* *) a *) b") ≡ reading (placed (name (codes "b")) 14 ∷ []) (Ok 15)
+  pub unended : symbols_of (codes "(* (* *)") ≡ reading [] (Err (fault_at NoSymbol 8))
+  pub not_ended : symbols_of (codes "(*)") ≡ reading [] (Err (fault_at NoSymbol 3))
   -- a reserved word in capitals, the longest mark, a number
-  pub words : symbols_of (codes "If a<=1B") ≡ reading (placed (word w.If) 0 ∷ placed (name (codes "a")) 3 ∷ placed (mark m.LessEqual) 4 ∷ placed (number (codes "1B")) 6 ∷ []) (stopped.End 8)
+  pub words : symbols_of (codes "If a<=1B") ≡ reading (placed (word w.If) 0 ∷ placed (name (codes "a")) 3 ∷ placed (mark m.LessEqual) 4 ∷ placed (number (codes "1B")) 6 ∷ []) (Ok 8)
   -- no letter directly behind a number; what stood before is read
-  pub stuck : symbols_of (codes "a 12x") ≡ reading (placed (name (codes "a")) 0 ∷ []) (stopped.Fault (fault_at NoSymbol 2))
+  pub stuck : symbols_of (codes "a 12x") ≡ reading (placed (name (codes "a")) 0 ∷ []) (Err (fault_at NoSymbol 2))

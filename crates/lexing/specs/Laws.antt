@@ -3,8 +3,7 @@ use Rattle.std.specs.Prelude.{◌≡◌, ℕ, ◌+◌, ◌≤◌, List, [], ◌�
 use Rattle.fault.specs.declared.LoadError.{LoadError}
 use Rattle.symbol.specs.Symbols.{PlacedSym, placed_of}
 use Rattle.lexing.specs.declared.Symbols.{Symbols}
-use Rattle.lexing.specs.declared.Stop.{Stop}
-use Rattle.lexing.specs.declared.Stop.TheVariants as stopped
+use Rattle.lexing.specs.Reading.{Stop}
 use Rattle.lexing.specs.Spelling.{Spells, Longest, Apart, Gap}
 
 -- one symbol with the gap before it: together with what follows they are the bytes again
@@ -20,8 +19,8 @@ pub record Woven (at : ℕ) (bs : List ℕ) (s : PlacedSym) (rest : List ℕ) : 
 
 -- where reading stopped: a last gap and the text's end, or a fault within these bytes
 abbrev pub Stops : ℕ → List ℕ → Stop → Type 0
-Stops at bs (stopped.End k) = Gap 0 bs × (k ≡ at + length bs)
-Stops at bs (stopped.Fault f) = (at ≤ f.place) × (f.place ≤ at + length bs)
+Stops at bs (Ok k) = Gap 0 bs × (k ≡ at + length bs)
+Stops at bs (Err f) = (at ≤ f.place) × (f.place ≤ at + length bs)
 
 -- gap, symbol, gap, symbol and so on, put together, are the bytes from the place `at` on
 abbrev pub Lexed : ℕ → List ℕ → List PlacedSym → Stop → Type 0
@@ -33,7 +32,7 @@ pub record Laws (text : List ℕ) (ss : List PlacedSym) (stop : Stop) : Type 0 w
   -- the parts of the symbols and the gaps between them, put together, are the text again
   pub lexed : Lexed 0 text ss stop
   -- there is no other way to part the text: if it can be parted to its end at all, then so
-  pub only : (ts : List PlacedSym) (k : ℕ) → Lexed 0 text ts (stopped.End k) → (ts ≡ ss) × (stopped.End k ≡ stop)
+  pub only : (ts : List PlacedSym) (k : ℕ) → Lexed 0 text ts (Ok k) → (ts ≡ ss) × (Ok k ≡ stop)
   -- no more symbols than bytes
   pub few : length ss ≤ length text
 

@@ -7,9 +7,11 @@ use Rattle.fault.specs.declared.Cause.TheVariants.{TooLong}
 use Rattle.fault.specs.Numbers.{fault_at}
 use Rattle.symbol.specs.Symbols.{Sym, name, number, character, word, mark, ending, PlacedSym, placed_of}
 use Rattle.scanner.specs.Scan.{longest_text, Step, scan}
-use Rattle.lexing.specs.declared.Stop.{Stop}
-use Rattle.lexing.specs.declared.Stop.TheVariants as stopped
 use Rattle.lexing.specs.declared.Symbols.{Symbols}
+
+-- where reading stopped: at the text's end, or at a fault
+abbrev pub Stop : Type 0
+Stop = Result ℕ Fault
 
 pub record Reading : Type 0 where
   pub list : List PlacedSym
@@ -31,13 +33,13 @@ before s r = record { list = s ∷ r.list; stop = r.stop }
 
 -- one step, and from behind it what `more` reads (`elim`, so that nothing is read behind the end)
 abbrev pub follow : (ℕ → Reading) → Result Step Fault → Reading
-follow more (Err f) = stopped_at (stopped.Fault f)
+follow more (Err f) = stopped_at (Err f)
 follow more (Ok s) =
-    elim (sym_is_ending s.read.symbol) [ true ↦ stopped_at (stopped.End s.read.place) | false ↦ before s.read (more s.behind) ]
+    elim (sym_is_ending s.read.symbol) [ true ↦ stopped_at (Ok s.read.place) | false ↦ before s.read (more s.behind) ]
 
 -- from the place `at` on, at most n symbols
 unfoldable pub read_from : ℕ → List ℕ → ℕ → Reading
-read_from zero text at = stopped_at (stopped.End at)
+read_from zero text at = stopped_at (Ok at)
 read_from (suc n) text at = follow (read_from n text) (scan text at)
 
 -- every symbol has a byte at least, so that no text has more symbols than bytes

@@ -11,18 +11,12 @@ use scanner::Scanner;
 use std::alloc::Global;
 use symbol::{Placed, Symbol};
 
-// Where reading stopped: at the text's end, or at what is no symbol.
-#[derive(Clone, Copy, Debug)]
-pub enum Stop {
-    End(usize),
-    Fault(Fault),
-}
-
 // The symbols of a text in order, up to the place where reading stopped.
 #[derive(Drop)]
 pub struct Symbols<'t> {
     pub list: Vec<Placed<'t>>,
-    pub stop: Stop,
+    // the text's end, or what is no symbol
+    pub stop: Result<usize, Fault>,
 }
 
 // Reads a text. Only a text that is too long, or want of memory, leaves nothing to tell but the error.
@@ -32,21 +26,16 @@ pub fn read_symbols<'t>(heap: Global, text: &'t [u8]) -> Result<Symbols<'t>, Loa
 {
     let mut scanner = Scanner::new(text)?;
     let mut list = Vec::new(heap);
-    loop {
+    let stop = loop {
         match scanner.next() {
-            Err(fault) => return Ok(Symbols {
-                list,
-                stop: Stop::Fault(fault),
-            }),
+            Err(fault) => break Err(fault),
             Ok(next) => match next.symbol {
-                Symbol::End => return Ok(Symbols {
-                    list,
-                    stop: Stop::End(next.place),
-                }),
+                Symbol::End => break Ok(next.place),
                 _ => list.push(next)?,
             },
         }
-    }
+    };
+    Ok(Symbols { list, stop })
 }
 
 // The worked examples of the definitions hold.

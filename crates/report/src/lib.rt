@@ -1,24 +1,27 @@
 // What yardcheck tells of a text.
 #![tactic(auto)]
 
-ghost use Rattle.report.specs.Lines.{Tells};
+ghost use Rattle.report.specs.Lines.{Counts, Tells};
 
 use fault::LoadError;
-use lexing::{Stop, read_symbols};
+use lexing::read_symbols;
 use std::alloc::Global;
+
+// How many symbols the text has, unless it has a fault.
+fn count_symbols(heap: Global, text: &[u8]) -> Result<usize, LoadError>
+    ensures { Counts text.now result }
+{
+    let symbols = read_symbols(heap, text)?;
+    let _end = symbols.stop?;
+    Ok(symbols.list.len())
+}
 
 // One line: how many symbols the text has, or its first fault.
 pub fn report(heap: Global, text: &[u8]) -> Result<String, LoadError>
     ensures { Tells text.now result }
 {
-    match read_symbols(heap, text) {
-        Ok(symbols) => match symbols.stop {
-            Stop::End(_) => {
-                let count = symbols.list.len();
-                Ok(format!(in heap; "{count} symbols")?)
-            }
-            Stop::Fault(fault) => Ok(format!(in heap; "{fault}")?),
-        },
+    match count_symbols(heap, text) {
+        Ok(count) => Ok(format!(in heap; "{count} symbols")?),
         Err(LoadError::Text(fault)) => Ok(format!(in heap; "{fault}")?),
         Err(LoadError::NoMemory) => Err(LoadError::NoMemory),
     }

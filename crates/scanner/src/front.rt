@@ -11,7 +11,7 @@ use symbol::{Mark, Symbol, Word, character_value, number_value};
 const LONGEST_NAME: usize = 24;
 
 // A symbol, and how many bytes it has.
-#[derive(Clone, Copy)]
+#[derive(Clone, Copy, Debug, PartialEq, Eq)]
 pub struct Front<'t> {
     pub symbol: Symbol<'t>,
     pub len: usize,
@@ -22,12 +22,9 @@ fn run_length(text: &[u8]) -> usize
     ensures value { result ≡ run text.now }
     ensures within { result ≤ length text.now }
 {
-    for (n, byte) in text.iter().enumerate() {
-        if !byte.is_ascii_alphanumeric() {
-            return n;
-        }
-    }
-    text.len()
+    text.iter()
+        .take_while(|byte| byte.is_ascii_alphanumeric())
+        .count()
 }
 
 // A name or a reserved word: the whole run of letters and digits.
@@ -38,17 +35,12 @@ fn word_front<'t>(text: &'t [u8]) -> Option<Front<'t>>
     if len > LONGEST_NAME {
         return None;
     }
-    let name = &text[0..len];
-    match Word::of(name) {
-        Some(word) => {
-            let symbol = Symbol::Word(word);
-            Some(Front { symbol, len })
-        }
-        None => {
-            let symbol = Symbol::Name(name);
-            Some(Front { symbol, len })
-        }
-    }
+    let name = &text[..len];
+    let symbol = match Word::of(name) {
+        Some(word) => Symbol::Word(word),
+        None => Symbol::Name(name),
+    };
+    Some(Front { symbol, len })
 }
 
 // A number or a character: the whole run of letters and digits, so that none directly follows.
@@ -56,16 +48,15 @@ fn digit_front<'t>(text: &'t [u8]) -> Option<Front<'t>>
     ensures { option_map begun_of result ≡ begins_digit text.now }
 {
     let len = run_length(text);
-    let part = &text[0..len];
-    if number_value(part).is_some() {
-        let symbol = Symbol::Number(part);
-        Some(Front { symbol, len })
+    let part = &text[..len];
+    let symbol = if number_value(part).is_some() {
+        Symbol::Number(part)
     } else if character_value(part).is_some() {
-        let symbol = Symbol::Character(part);
-        Some(Front { symbol, len })
+        Symbol::Character(part)
     } else {
-        None
-    }
+        return None;
+    };
+    Some(Front { symbol, len })
 }
 
 // A character in quotes.
@@ -73,55 +64,50 @@ fn quote_front<'t>(text: &'t [u8]) -> Option<Front<'t>>
     ensures { option_map begun_of result ≡ begins_quote text.now }
 {
     let len = if char_at(text, 1) == '"' { 4 } else { 3 };
-    if text.len() < len {
-        return None;
-    }
-    let part = &text[0..len];
+    let part = text.get(..len)?;
     if character_value(part).is_none() || char_at(text, len).is_ascii_alphanumeric() {
         return None;
     }
-    let symbol = Symbol::Character(part);
-    Some(Front { symbol, len })
+    Some(Front {
+        symbol: Symbol::Character(part),
+        len,
+    })
 }
 
 // This mark, of so many bytes.
 fn marked(mark: Mark, len: usize) -> Option<Front<'static>>
     ensures { option_map begun_of result ≡ Some (mark_sym mark, len) }
 {
-    let symbol = Symbol::Mark(mark);
-    Some(Front { symbol, len })
+    Some(Front {
+        symbol: Symbol::Mark(mark),
+        len,
+    })
 }
 
 // An operator, bracket or separator.
 fn mark_front(first: char, second: char) -> Option<Front<'static>>
     ensures { option_map begun_of result ≡ begins_mark first second }
 {
-    match first {
-        '+' => marked(Mark::Plus, 1),
-        '-' => marked(Mark::Minus, 1),
-        '*' => marked(Mark::Times, 1),
-        '/' => marked(Mark::Slash, 1),
-        '=' => marked(Mark::Equal, 1),
-        '<' => match second {
-            '>' => marked(Mark::NotEqual, 2),
-            '=' => marked(Mark::LessEqual, 2),
-            _ => marked(Mark::Less, 1),
-        },
-        '>' => match second {
-            '=' => marked(Mark::GreaterEqual, 2),
-            _ => marked(Mark::Greater, 1),
-        },
-        ':' => match second {
-            '=' => marked(Mark::Becomes, 2),
-            _ => marked(Mark::Colon, 1),
-        },
-        '(' => marked(Mark::LeftParen, 1),
-        ')' => marked(Mark::RightParen, 1),
-        '[' => marked(Mark::LeftBracket, 1),
-        ']' => marked(Mark::RightBracket, 1),
-        '.' => marked(Mark::Dot, 1),
-        ',' => marked(Mark::Comma, 1),
-        ';' => marked(Mark::Semicolon, 1),
+    match (first, second) {
+        ('+', _) => marked(Mark::Plus, 1),
+        ('-', _) => marked(Mark::Minus, 1),
+        ('*', _) => marked(Mark::Times, 1),
+        ('/', _) => marked(Mark::Slash, 1),
+        ('=', _) => marked(Mark::Equal, 1),
+        ('<', '>') => marked(Mark::NotEqual, 2),
+        ('<', '=') => marked(Mark::LessEqual, 2),
+        ('<', _) => marked(Mark::Less, 1),
+        ('>', '=') => marked(Mark::GreaterEqual, 2),
+        ('>', _) => marked(Mark::Greater, 1),
+        (':', '=') => marked(Mark::Becomes, 2),
+        (':', _) => marked(Mark::Colon, 1),
+        ('(', _) => marked(Mark::LeftParen, 1),
+        (')', _) => marked(Mark::RightParen, 1),
+        ('[', _) => marked(Mark::LeftBracket, 1),
+        (']', _) => marked(Mark::RightBracket, 1),
+        ('.', _) => marked(Mark::Dot, 1),
+        (',', _) => marked(Mark::Comma, 1),
+        (';', _) => marked(Mark::Semicolon, 1),
         _ => None,
     }
 }

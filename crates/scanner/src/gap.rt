@@ -7,8 +7,9 @@ use fault::{Cause, Fault};
 // Comments nest so deep.
 const DEEPEST: usize = 32;
 
-// What to do at a place between symbols.
-#[derive(Clone, Copy)]
+// What to do at a place between symbols. No closures: which move it is stands in a table, apart from the loop that makes the moves,
+// and so it stands in the definition.
+#[derive(Clone, Copy, Debug, PartialEq, Eq)]
 pub enum Move {
     // a comment opens
     Open,
@@ -27,28 +28,22 @@ pub enum Move {
 pub fn is_blank(c: char) -> bool
     ensures { result ≡ blank c }
 {
-    match c {
-        '\t' | '\n' | '\r' | ' ' => true,
-        _ => false,
-    }
+    matches!(c, '\t' | '\n' | '\r' | ' ')
 }
 
 // The characters that a text may have.
 fn is_allowed(c: char) -> bool
     ensures { result ≡ allowed c }
 {
-    is_blank(c) || (c >= ' ' && c <= '~')
+    is_blank(c) || matches!(c, ' '..='~')
 }
 
-// The character at this place, or 0 where the text has ended.
+// The character at this place, or 0 where the text has ended. No option: no text may have that byte, and two options beside each
+// other would have to be taken apart in every row of the moves.
 pub fn char_at(text: &[u8], place: usize) -> char
     ensures { result ≡ slice_index text.now place }
 {
-    if place < text.len() {
-        text[place] as char
-    } else {
-        '\0'
-    }
+    text.get(place).map_or('\0', |byte| char::from(*byte))
 }
 
 // The move at a character and the one behind it, with so many comments open.
@@ -70,6 +65,7 @@ fn move_at(depth: usize, first: char, second: char) -> Move
 pub fn skip_gap(text: &[u8], from: usize) -> Result<usize, Fault>
     ensures { result ≡ gap 0 from (drop from text.now) }
 {
+    // An index, and no walk along the rest: `at` is what is answered, what a fault names, and may lie behind the text.
     let mut at = from;
     let mut depth = 0;
     while at < text.len() {

@@ -11,7 +11,7 @@ use symbol::{Placed, Symbol};
 // A text has at most so many bytes.
 const LONGEST_TEXT: usize = 16384;
 
-#[derive(Clone, Copy)]
+#[derive(Clone, Copy, Debug)]
 pub struct Scanner<'t> {
     text: &'t [u8],
     at: usize,
@@ -43,15 +43,13 @@ impl<'t> Scanner<'t> {
                 place,
             });
         }
-        match front_of(&self.text[place..]) {
-            None => Err(Fault::new(Cause::NoSymbol, place)),
-            Some(front) => {
-                self.at = place + front.len;
-                Ok(Placed {
-                    symbol: front.symbol,
-                    place,
-                })
-            }
-        }
+        let Some(front) = front_of(&self.text[place..]) else {
+            return Err(Fault::new(Cause::NoSymbol, place));
+        };
+        self.at = place + front.len;
+        Ok(Placed {
+            symbol: front.symbol,
+            place,
+        })
     }
 }

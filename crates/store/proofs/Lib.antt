@@ -1,4 +1,3 @@
 pub mod Windows
 pub mod Boards
 pub mod Loops
-pub mod Memory

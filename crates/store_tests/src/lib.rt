@@ -26,17 +26,7 @@ pub fn clear_in_pile<'a>(strip: Strip<'a>, n: usize) -> Strip<'a>
         len: 3,
     };
     clear(&mut upper, n);
-    let Bay {
-        below: lower,
-        first: _,
-        len: _,
-    } = upper;
-    let Bay {
-        below: strip,
-        first: _,
-        len: _,
-    } = lower;
-    strip
+    upper.below.below
 }
 
 // Clears the first `n` cells of the host's bytes: the bytes left over are the host's own, and unaltered.
@@ -54,7 +44,7 @@ mod tests {
     use fault::StoreError;
     use std::process::Abort;
     use std::test::Fail;
-    use store::{Board, Store, copy};
+    use store::{Board, Cells, Store, copy};
 
     // Both sides of the last cell; a refused put changes nothing.
     fn check_end<S: Store>(rt: &impl Abort, store: &mut S, count: usize) {

@@ -1,10 +1,15 @@
 -- Cells of four bytes: what a write of one leaves.
-use Rattle.std.proofs.Common.{◌≡◌, ℕ, ◌+◌, ◌*◌, ◌/◌, ◌<◌, ◌≤◌, min, ltb, ◌≢◌, List, length, get_or, set, ℤ, pos, sym, ap, ◌∙◌, ⊎_elim, arith, length-set, w32, SFits, rules}
+use Rattle.std.proofs.Common.{◌≡◌, ℕ, zero, suc, ◌+◌, ◌*◌, ◌/◌, ◌<◌, ◌≤◌, min, ltb, ◌≢◌, List, [], ◌∷◌, length, get_or, take, drop, set, ℤ, pos, Some, None, Option, Bor, sym, refl, ap, ◌∙◌, ⊎_elim, arith, length-set, length-drop, w32, SFits, rules}
 use Rattle.std.proofs.lemmas.List.FromFn.{length-map-range_with_len, get_or-map-range_with_len}
 use Rattle.std.proofs.lemmas.List.{get_or-set_same, get_or-set_other, same_lists, drop-set-lt}
-use Rattle.std.proofs.lemmas.Bool.{lt-ltb, le-ltb, cond-true, cond-false}
+use Rattle.std.proofs.lemmas.Slice.{between_to_end}
+use Rattle.std.specs.List.{between}
+use Rattle.std.specs.Option.{MatchOption, option_copied}
+use Rattle.std.specs.Array.{IsFirstChunk}
+use borrow.Rule.Slice.PartMut.{put_mid}
+use Rattle.std.proofs.lemmas.Bool.{lt-ltb, cond-true}
 use Rattle.std.proofs.lemmas.Bool.Decides.{eqb_tells}
-use Rattle.strip.specs.Bytes.{bytes_of, cell_of, strip_count, strip_cells, Leftover, set4, with_cell}
+use Rattle.strip.specs.Bytes.{bytes_of, cell_of, strip_count, strip_cells, four, Leftover, set4, with_cell}
 
 pub strip_length : (bs : List ℕ) → length (strip_cells bs) ≡ strip_count bs
 strip_length bs = length-map-range_with_len (cell_of bs) 0 (strip_count bs)
@@ -12,11 +17,43 @@ strip_length bs = length-map-range_with_len (cell_of bs) 0 (strip_count bs)
 pub within : (bs : List ℕ) (n : ℕ) → n < length (strip_cells bs) → 4 * n + 3 < length bs
 within bs n h = omega (arith, strip_length bs)
 
+strip_at : (bs : List ℕ) (n : ℕ) (d : ℤ) → n < strip_count bs → get_or (strip_cells bs) n d ≡ cell_of bs n
+strip_at bs n d h = get_or-map-range_with_len (cell_of bs) 0 (strip_count bs) n n d h (omega arith)
+
 pub strip_cell : (bs : List ℕ) (n : ℕ) → n < length (strip_cells bs) → get_or (strip_cells bs) n (pos 0) ≡ cell_of bs n
-strip_cell bs n h = get_or-map-range_with_len (cell_of bs) 0 (strip_count bs) n n (pos 0) (omega (arith, strip_length bs)) (omega arith)
+strip_cell bs n h = strip_at bs n (pos 0) (omega (arith, strip_length bs))
 
 pub length_set4 : (bs : List ℕ) (at : ℕ) (ws : List ℕ) → length (set4 bs at ws) ≡ length bs
 length_set4 bs at ws = simp length-set
+
+-- a place further on, as `get_or` and `set` step to it
+module _ (at : ℕ) where
+  one-on : suc at + 1 ≡ suc (at + 1)
+  one-on = omega arith
+
+  two-on : suc at + 2 ≡ suc (at + 2)
+  two-on = omega arith
+
+  three-on : suc at + 3 ≡ suc (at + 3)
+  three-on = omega arith
+
+-- the four elements from `at` on
+pub four_at : (bs : List ℕ) (at : ℕ) → at + 4 ≤ length bs → take 4 (drop at bs) ≡ four bs at
+four_at (a ∷ b ∷ c ∷ d ∷ bs) zero h = refl
+four_at (x ∷ bs) (suc at) h = rw (one-on, two-on, three-on) (four_at bs at (omega arith))
+four_at bs at h = absurd (omega arith)
+
+-- the first four bytes of what is left from `at` on
+pub chunk_at : (bs : List ℕ) (at : ℕ) (r : Option (Bor (List ℕ))) → at + 4 ≤ length bs →
+    MatchOption r (length (between at (length bs) bs) < 4) (λ y. IsFirstChunk (between at (length bs) bs) y.now 4) → option_copied r ≡ Some (four bs at)
+chunk_at bs at None h m = absurd (omega (arith, ap length (between_to_end bs at (length bs) (omega arith)), length-drop at bs, m))
+chunk_at bs at (Some y) h m = ap Some (m.same ∙ ap (take 4) (between_to_end bs at (length bs) (omega arith)) ∙ four_at bs at h)
+
+-- four bytes written in one piece
+pub set4_mid : (bs : List ℕ) (at : ℕ) (a b c d : ℕ) → at + 4 ≤ length bs → put_mid at 4 bs (a ∷ b ∷ c ∷ d ∷ []) ≡ set4 bs at (a ∷ b ∷ c ∷ d ∷ [])
+set4_mid (x ∷ y ∷ z ∷ w ∷ bs) zero a b c d h = refl
+set4_mid (x ∷ bs) (suc at) a b c d h = rw (one-on, two-on, three-on) (ap (λ (t : List ℕ). x ∷ t) (set4_mid bs at a b c d (omega arith)))
+set4_mid bs at a b c d h = absurd (omega arith)
 
 -- what stands where after four bytes are written
 module _ (bs : List ℕ) (at : ℕ) (ws : List ℕ) where
@@ -53,10 +90,6 @@ cell_other bs n m ws h =
       other bs (4 * n) ws (4 * m + 3) (omega arith) (omega arith) (omega arith) (omega arith),
     )
 
--- the same at any default
-strip_at : (bs : List ℕ) (n : ℕ) (d : ℤ) → n < strip_count bs → get_or (strip_cells bs) n d ≡ cell_of bs n
-strip_at bs n d h = get_or-map-range_with_len (cell_of bs) 0 (strip_count bs) n n d h (omega arith)
-
 pub strip_set : (bs : List ℕ) (n : ℕ) (v : ℤ) → SFits w32 v → n < length (strip_cells bs) → strip_cells (set4 bs (4 * n) (bytes_of v)) ≡ set (strip_cells bs) n v
 strip_set bs n v f h =
     let ws = bytes_of v in
@@ -83,6 +116,3 @@ leftover_set bs n ws h =
 
 pub with_cell_lem : (bs : List ℕ) (n : ℕ) (v : ℤ) → n < length (strip_cells bs) → set4 bs (4 * n) (bytes_of v) ≡ with_cell bs n v
 with_cell_lem bs n v h = sym (cond-true (ltb n (strip_count bs)) (set4 bs (4 * n) (bytes_of v)) bs (lt-ltb n (strip_count bs) (omega (arith, strip_length bs))))
-
-pub without_cell : (bs : List ℕ) (n : ℕ) (v : ℤ) → length (strip_cells bs) ≤ n → bs ≡ with_cell bs n v
-without_cell bs n v h = sym (cond-false (ltb n (strip_count bs)) (set4 bs (4 * n) (bytes_of v)) bs (le-ltb n (strip_count bs) (omega (arith, strip_length bs))))

@@ -1,5 +1,5 @@
 -- What bytes mean as cells: four bytes a cell, the highest first, in two's complement.
-use Rattle.std.specs.Prelude.{◌≡◌, ℕ, ◌+◌, ◌*◌, ◌/◌, ◌%◌, min, cond, List, [], ◌∷◌, map, length, drop, ℤ, nat_lt, slice_index, slice_set}
+use Rattle.std.specs.Prelude.{◌≡◌, ℕ, ◌+◌, ◌*◌, ◌/◌, ◌%◌, min, cond, Some, None, Option, List, [], ◌∷◌, map, length, drop, ℤ, nat_lt, slice_index, slice_set}
 use Rattle.std.specs.Int.{w32}
 use Rattle.std.proofs.Common.{to_z, of_z}
 use Rattle.std.specs.List.{range_with_len}
@@ -16,9 +16,17 @@ bytes_of v = (of_z w32 v / 16777216 % 256) ∷ (of_z w32 v / 65536 % 256) ∷ (o
 abbrev pub cell_of : List ℕ → ℕ → ℤ
 cell_of bs n = number (slice_index bs (4 * n)) (slice_index bs (4 * n + 1)) (slice_index bs (4 * n + 2)) (slice_index bs (4 * n + 3))
 
+-- the four bytes at `at` and after it
+abbrev pub four : List ℕ → ℕ → List ℕ
+four bs at = slice_index bs at ∷ slice_index bs (at + 1) ∷ slice_index bs (at + 2) ∷ slice_index bs (at + 3) ∷ []
+
 -- as many cells as are whole, 4,096 at most
 abbrev pub strip_count : List ℕ → ℕ
 strip_count bs = min (length bs / 4) 4096
+
+-- the four bytes of cell n, where there is one
+abbrev pub cell_bytes : List ℕ → ℕ → Option (List ℕ)
+cell_bytes bs n = cond (nat_lt n (strip_count bs)) (Some (four bs (4 * n))) None
 
 abbrev pub strip_cells : List ℕ → List ℤ
 strip_cells bs = map (cell_of bs) (range_with_len 0 (strip_count bs))

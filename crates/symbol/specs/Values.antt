@@ -8,6 +8,10 @@ use Rattle.std.specs.Char.{to_ascii_lowercase}
 abbrev pub digit_in : ℕ → ℕ → Bool
 digit_in base b = nat_le 48 b && nat_lt b (48 + base)
 
+-- what a digit says
+abbrev pub digit_value_of : ℕ → ℕ → Option ℕ
+digit_value_of base b = cond (digit_in base b) (Some (b - 48)) None
+
 abbrev pub all_digits : ℕ → List ℕ → Bool
 all_digits base [] = true
 all_digits base (b ∷ bs) = digit_in base b && all_digits base bs

@@ -1,6 +1,7 @@
 -- Reserved words and marks, and how they are written.
-use Rattle.std.specs.Prelude.{◌≡◌, ℕ, Bool, cond, List, [], ◌∷◌, map, Some, None, codes, Option, ◌≢◌}
+use Rattle.std.specs.Prelude.{◌≡◌, ℕ, Bool, List, [], ◌∷◌, map, Some, None, codes, Option, ◌≢◌}
 use Rattle.std.specs.Char.{to_ascii_lowercase}
+use Rattle.std.specs.List.{find}
 use Rattle.std.specs.Str.{bytes_eq}
 use Rattle.symbol.specs.declared.word.Word.{Word}
 use Rattle.symbol.specs.declared.word.Word.TheVariants as w
@@ -87,13 +88,9 @@ words =
     w.Xor ∷
     []
 
--- the first of these words that is written so
-abbrev pub word_among : List Word → List ℕ → Option Word
-word_among [] bs = None
-word_among (x ∷ xs) bs = cond (same_name bs (word_spelling x)) (Some x) (word_among xs bs)
-
+-- the first of the words that is written so
 abbrev pub reserved : List ℕ → Option Word
-reserved bs = word_among words bs
+reserved bs = find (λ x. same_name bs (word_spelling x)) words
 
 -- what `reserved` finds is written so, and what is written as a reserved word is found
 abbrev pub Reserves : List ℕ → Option Word → Type 0

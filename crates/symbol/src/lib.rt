@@ -12,7 +12,7 @@ pub use value::{character_value, number_value};
 pub use word::Word;
 
 // A symbol. Names, numbers and characters are parts of the text.
-#[derive(Clone, Copy, Debug)]
+#[derive(Clone, Copy, Debug, PartialEq, Eq)]
 pub enum Symbol<'t> {
     Name(&'t [u8]),
     Number(&'t [u8]),
@@ -24,7 +24,7 @@ pub enum Symbol<'t> {
 }
 
 // A symbol and its place: its first byte, counted from 0.
-#[derive(Clone, Copy, Debug)]
+#[derive(Clone, Copy, Debug, PartialEq, Eq)]
 pub struct Placed<'t> {
     pub symbol: Symbol<'t>,
     pub place: usize,

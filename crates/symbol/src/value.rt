@@ -1,44 +1,44 @@
 // What the parts of a text say that are numbers and characters.
-ghost use Rattle.std.specs.Prelude.{◌≡◌, ◌≤◌};
-ghost use Rattle.symbol.specs.Values.{digits_value_of, number_value_of, ordinal_value_of, printable, quoted_value_of, character_value_of};
+ghost use Rattle.std.specs.Prelude.{◌≡◌};
+ghost use Rattle.symbol.specs.Values.{digit_value_of, digits_value_of, number_value_of, ordinal_value_of, printable, quoted_value_of, character_value_of};
 
 const LARGEST_NUMBER: u32 = 2147483647;
 
 const LARGEST_CHARACTER: u32 = 0o177;
 
+// The value of a digit of this base.
+fn digit_value(byte: u8, base: u32) -> Option<u32>
+    ensures { result ≡ digit_value_of base byte }
+{
+    let digit = u32::from(byte.checked_sub(b'0')?);
+    (digit < base).then_some(digit)
+}
+
 // The number that the digits say, if there is one, no other byte, and it is not above the limit.
 fn digits_value(digits: &[u8], base: u32, limit: u32) -> Option<u32>
-    requires { base ≤ 10 }
     ensures { result ≡ digits_value_of base limit digits.now }
 {
     if digits.is_empty() {
         return None;
     }
-    let mut value: u64 = 0;
-    for digit in digits {
-        let digit = *digit as u64;
-        if digit < 48 || digit >= 48 + base as u64 {
-            return None;
-        }
-        value = value * base as u64 + (digit - 48);
-        if value > limit as u64 {
+    let mut value: u32 = 0;
+    for byte in digits {
+        let digit = digit_value(*byte, base)?;
+        value = value.checked_mul(base)?.checked_add(digit)?;
+        if value > limit {
             return None;
         }
     }
-    Some(value as u32)
+    Some(value)
 }
 
 // The value of a number: decimal digits, or octal digits and B.
 pub fn number_value(part: &[u8]) -> Option<u32>
     ensures { result ≡ number_value_of part.now }
 {
-    let [octal @ .., last] = part else {
-        return None;
-    };
-    if last.to_ascii_lowercase() == b'b' {
-        digits_value(octal, 8, LARGEST_NUMBER)
-    } else {
-        digits_value(part, 10, LARGEST_NUMBER)
+    match part {
+        [octal @ .., b'b' | b'B'] => digits_value(octal, 8, LARGEST_NUMBER),
+        _ => digits_value(part, 10, LARGEST_NUMBER),
     }
 }
 
@@ -46,20 +46,16 @@ pub fn number_value(part: &[u8]) -> Option<u32>
 fn ordinal_value(part: &[u8]) -> Option<u32>
     ensures { result ≡ ordinal_value_of part.now }
 {
-    let [octal @ .., last] = part else {
-        return None;
-    };
-    if last.to_ascii_lowercase() == b'c' {
-        digits_value(octal, 8, LARGEST_CHARACTER)
-    } else {
-        None
+    match part {
+        [octal @ .., b'c' | b'C'] => digits_value(octal, 8, LARGEST_CHARACTER),
+        _ => None,
     }
 }
 
 fn is_printable(byte: u8) -> bool
     ensures { result ≡ printable byte }
 {
-    byte >= 32 && byte <= 126
+    matches!(byte, b' '..=b'~')
 }
 
 // The value of a character in quotes; the quote itself is written twice.
@@ -67,8 +63,8 @@ fn quoted_value(part: &[u8]) -> Option<u32>
     ensures { result ≡ quoted_value_of part.now }
 {
     match part {
-        [b'"', b'"', b'"', b'"'] => Some(34),
-        [b'"', inner, b'"'] if *inner != b'"' && is_printable(*inner) => Some(*inner as u32),
+        [b'"', b'"', b'"', b'"'] => Some(u32::from(b'"')),
+        [b'"', inner, b'"'] if *inner != b'"' && is_printable(*inner) => Some(u32::from(*inner)),
         _ => None,
     }
 }

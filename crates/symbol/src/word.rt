@@ -130,11 +130,9 @@ impl Word {
         ensures value { result ≡ reserved name.now }
         ensures law { Reserves name.now result }
     {
-        for word in WORDS {
-            if same_name(name, word.spelling()) {
-                return Some(word);
-            }
-        }
-        None
+        WORDS
+            .iter()
+            .copied()
+            .find(|word| same_name(name, word.spelling()))
     }
 }

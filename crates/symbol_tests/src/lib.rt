@@ -7,21 +7,6 @@ mod tests {
     use std::process::Abort;
     use std::test::Fail;
 
-    // A text of one part, written so many times, and then another.
-    fn repeated(
-        rt: &HostRuntime,
-        count: usize,
-        part: &[u8],
-        behind: &[u8],
-    ) -> Result<Vec<u8>, Fail> {
-        let mut text = Vec::new(rt.alloc());
-        for _ in 0..count {
-            text.extend_from_slice(part)?;
-        }
-        text.extend_from_slice(behind)?;
-        Ok(text)
-    }
-
     fn tells(rt: &(impl Abort + AllocGlobal), text: &[u8], line: &str) -> Result<(), Fail> {
         let told = report(rt.alloc(), text)?;
         assert_eq!(rt; told.as_str(), line);
@@ -131,8 +116,10 @@ mod tests {
             ),
         ];
         for (count, part, behind, line) in table {
-            let text = repeated(&rt, count, part, behind)?;
-            tells(&rt, text.as_slice(), line)?;
+            // one part so many times, and then another
+            let mut text = part.repeat(rt.alloc(), count)?;
+            text.extend_from_slice(behind)?;
+            tells(&rt, &text, line)?;
         }
         Ok(())
     }

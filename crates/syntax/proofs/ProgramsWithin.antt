@@ -13,7 +13,6 @@ use Rattle.syntax.specs.Statements.{statement, optional_of}
 use Rattle.syntax.proofs.StatementsWithin.{statement_within, optional_within}
 use Rattle.syntax.specs.ProgramTrees.{Section}
 use Rattle.syntax.specs.declared.Marking.{Marking}
-use Rattle.syntax.specs.declared.Marking.TheVariants as m
 use Rattle.syntax.specs.declared.PartKind.{PartKind}
 use Rattle.syntax.specs.declared.PartKind.TheVariants as part
 use Rattle.syntax.specs.declared.DeclarationKind.{DeclarationKind}
@@ -112,7 +111,7 @@ module _ (d : ℕ) where
 
 -- ---- procedures
 
-section_from_lem : (k : Marking) (p : ℕ) → Reading (section_from k p)
+section_from_lem : (k : Option Marking) (p : ℕ) → Reading (section_from k p)
 section_from_lem k p ss =
     within_after _ (idents_of ss) _ (idents_within ss)
     (λ ns r1. within_after _ (expect_mark Colon r1) _ (mark_within Colon r1) (λ _ r2. within_mapped _ _ (ident_of r2) (ident_within r2)))
@@ -121,10 +120,9 @@ pub section_within : Reading formals_section_of
 unfolding formals_section_of
 section_within ss = go (marking (head ss).symbol)
   where
-    go : (k : Marking) → Within (length ss) (section_from k (head ss).place (unmarked k ss))
-    go m.Unmarked = section_from_lem m.Unmarked _ ss
-    go m.Const = within_tail (section_from m.Const (head ss).place (tail ss)) ss (section_from_lem m.Const _ (tail ss))
-    go m.Var = within_tail (section_from m.Var (head ss).place (tail ss)) ss (section_from_lem m.Var _ (tail ss))
+    go : (k : Option Marking) → Within (length ss) (section_from k (head ss).place (unmarked k ss))
+    go None = section_from_lem None _ ss
+    go (Some k) = within_tail (section_from (Some k) (head ss).place (tail ss)) ss (section_from_lem (Some k) _ (tail ss))
 
 pub formals_within : (d : ℕ) → Reading (formals_of d)
 unfolding formals_of

@@ -14,16 +14,15 @@ use Rattle.syntax.specs.declared.Marking.{Marking}
 use Rattle.syntax.specs.declared.Marking.TheVariants as m
 use Rattle.syntax.specs.Declarations.{parts_of}
 
-abbrev pub marking : Sym → Marking
-marking s = cond (sym_is_word w.Const s) m.Const (cond (sym_is_word w.Var s) m.Var m.Unmarked)
+abbrev pub marking : Sym → Option Marking
+marking s = cond (sym_is_word w.Const s) (Some m.Const) (cond (sym_is_word w.Var s) (Some m.Var) None)
 
 -- what is left behind the word
-abbrev pub unmarked : Marking → List PlacedSym → List PlacedSym
-unmarked m.Unmarked ss = ss
-unmarked m.Const ss = tail ss
-unmarked m.Var ss = tail ss
+abbrev pub unmarked : Option Marking → List PlacedSym → List PlacedSym
+unmarked None ss = ss
+unmarked (Some k) ss = tail ss
 
-abbrev pub section_from : Marking → ℕ → Reads Section
+abbrev pub section_from : Option Marking → ℕ → Reads Section
 section_from k p ss = after (idents_of ss) (λ ns r1. after (expect_mark Colon r1) (λ _ r2. mapped (formals p k ns) (ident_of r2)))
 
 -- formals = ["const" | "var"] idents ":" ident

@@ -1,5 +1,5 @@
 -- What is read of a whole text.
-use Rattle.std.specs.Prelude.{ℕ, cond, List, [], ◌∷◌, length, nat_le}
+use Rattle.std.specs.Prelude.{ℕ, cond, List, [], ◌∷◌, length, Ok, Err, nat_le}
 use Rattle.fault.specs.declared.Cause.{Cause}
 use Rattle.fault.specs.declared.Cause.TheVariants.{TooLong}
 use Rattle.fault.specs.declared.Fault.{Fault}
@@ -7,9 +7,7 @@ use Rattle.fault.specs.Numbers.{fault_at}
 use Rattle.symbol.specs.Symbols.{PlacedSym}
 use Rattle.symbol.specs.declared.mark.Mark.TheVariants.{Dot}
 use Rattle.scanner.specs.Scan.{longest_text}
-use Rattle.lexing.specs.declared.Stop.{Stop}
-use Rattle.lexing.specs.declared.Stop.TheVariants as stopped
-use Rattle.lexing.specs.Reading.{Reading, symbols_of}
+use Rattle.lexing.specs.Reading.{Stop, Reading, symbols_of}
 use Rattle.cursor.specs.Reading.{Out, Reads, got, fault, after, mapped, expect_mark, expect_end}
 use Rattle.syntax.specs.ProgramTrees.{Modul}
 use Rattle.syntax.specs.Modules.{module_for}
@@ -30,8 +28,8 @@ pub data Answer : Type 0 where
 
 -- where the symbols are used up, what stopped their reading is the fault, if it was one
 abbrev pub stop_fault : Stop → Cause → Fault
-stop_fault (stopped.End k) c = fault_at c k
-stop_fault (stopped.Fault f) c = f
+stop_fault (Ok k) c = fault_at c k
+stop_fault (Err f) c = f
 
 abbrev pub fault_in : Stop → Cause → List PlacedSym → Fault
 fault_in s c [] = stop_fault s c
@@ -39,8 +37,8 @@ fault_in s c (x ∷ xs) = fault_at c x.place
 
 -- a program is accepted only where its text ends
 abbrev pub whole : Stop → Modul → Answer
-whole (stopped.End k) m = accepted m
-whole (stopped.Fault f) m = refused f
+whole (Ok k) m = accepted m
+whole (Err f) m = refused f
 
 abbrev pub answer : Stop → Out Modul → Answer
 answer s (got m rest) = whole s m

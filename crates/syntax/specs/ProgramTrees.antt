@@ -15,7 +15,7 @@ pub data Parted : Type 0 where
   declared : List Variables → Parted
 
 pub data Section : Type 0 where
-  formals : ℕ → Marking → List Lex → Lex → Section
+  formals : ℕ → Option Marking → List Lex → Lex → Section
 
 pub data Proc : Type 0 where
   procedure : ℕ → Lex → List Section → Option Lex → List Parted → Stmts → Proc

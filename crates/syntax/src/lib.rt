@@ -2,16 +2,15 @@
 // of the grammar. The readers of expressions and types stand in their own crates, with the code that is held to them.
 #![tactic(auto)]
 
-// The word before a section of formals. An unmarked one is const.
-#[derive(Clone, Copy)]
+// The word that may stand before a section of formals. A section without one is const.
+#[derive(Clone, Copy, Debug, PartialEq, Eq)]
 pub enum Marking {
-    Unmarked,
     Const,
     Var,
 }
 
 // What a part declares.
-#[derive(Clone, Copy)]
+#[derive(Clone, Copy, Debug, PartialEq, Eq)]
 pub enum PartKind {
     Constants,
     Types,
@@ -19,7 +18,7 @@ pub enum PartKind {
 }
 
 // What stands in a module.
-#[derive(Clone, Copy)]
+#[derive(Clone, Copy, Debug, PartialEq, Eq)]
 pub enum DeclarationKind {
     Part(PartKind),
     Procedure,

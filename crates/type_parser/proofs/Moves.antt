@@ -1,10 +1,10 @@
 -- What the readers of constants and types answer, step by step, in the forms that the code has. Assumes nothing.
-use Rattle.std.proofs.Common.{◌≡◌, ℕ, zero, suc, Bool, true, false, List, ◌∷◌, Some, None, Option, sym, refl, ap, ◌∙◌, subst}
+use Rattle.std.proofs.Common.{◌≡◌, ℕ, zero, suc, Bool, true, false, List, Some, None, Option, sym, refl, ap, ◌∙◌, subst}
 use Rattle.fault.specs.declared.Cause.TheVariants.{Syntax, TooDeep}
 use Rattle.symbol.specs.Symbols.{PlacedSym}
 use Rattle.symbol.specs.declared.mark.Mark.TheVariants.{RightParen, Colon, Semicolon}
 use Rattle.symbol.specs.declared.word.Word.TheVariants.{Of, End}
-use Rattle.cursor.specs.Reading.{Out, Reads, got, fault, after, mapped, head, tail, expect_mark, expect_word, Lex, number_of, idents_of, inner, list_of}
+use Rattle.cursor.specs.Reading.{Reads, got, fault, after, mapped, head, tail, expect_mark, expect_word, Lex, number_of, idents_of, inner, list_of}
 use Rattle.cursor.proofs.Steps.{nested_none, nested_some}
 use Rattle.expression_tree.specs.declared.Sign.{Sign}
 use Rattle.expression_parser.specs.Classes.{sign, Start, a_number, a_character, a_name, an_opening, a_not, other, start}
@@ -30,9 +30,9 @@ no_true h = subst holds h tt
     holds true = ⊥
     holds false = Unit {0}
 
-pub constant_signed : (ss rest : List PlacedSym) (g : Option Sign) (h : Sign) → g ≡ sign (head ss).symbol → g ≡ Some h → rest ≡ unsigned g ss → constant_of ss ≡ mapped (tree.signed g) (number_of rest)
+pub constant_signed : (ss rest : List PlacedSym) (g : Option Sign) (h : Sign) → g ≡ sign (head ss).symbol → g ≡ Some h → rest ≡ unsigned g ss → constant_of ss ≡ mapped (tree.signed (Some h)) (number_of rest)
 unfolding constant_of
-constant_signed ss rest g h e s r = ap (λ x. signed_of x ss) (sym e ∙ s) ∙ ap (λ l. mapped (tree.signed (Some h)) (number_of l)) (sym (r ∙ ap (λ x. unsigned x ss) s)) ∙ ap (λ x. mapped (tree.signed x) (number_of rest)) (sym s)
+constant_signed ss rest g h e s r = ap (λ x. signed_of x ss) (sym e ∙ s) ∙ ap (λ l. mapped (tree.signed (Some h)) (number_of l)) (sym (r ∙ ap (λ x. unsigned x ss) s))
 
 pub constant_at_lem : (ss rest : List PlacedSym) (g : Option Sign) (x : Start) → g ≡ sign (head ss).symbol → g ≡ None → rest ≡ unsigned g ss → start (head rest).symbol ≡ x → constant_of ss ≡ constant_at x rest
 unfolding constant_of
@@ -40,14 +40,14 @@ constant_at_lem ss rest g x e s r k =
     ap (λ y. signed_of y ss) (sym e ∙ s) ∙ ap (λ l. constant_at (start (head l).symbol) l) (sym (r ∙ ap (λ y. unsigned y ss) s)) ∙ ap (λ y. constant_at y rest) k
 
 module _ (ss rest : List PlacedSym) (g : Option Sign) where
-  pub constant_number : (left : List PlacedSym) (b : List ℕ) (k : ℕ) → g ≡ sign (head ss).symbol → g ≡ None → rest ≡ unsigned g ss → start (head rest).symbol ≡ a_number b → k ≡ (head rest).place → left ≡ tail rest → constant_of ss ≡ got (tree.signed None (b, k)) left
-  constant_number left b k e s r x p l = constant_at_lem ss rest g _ e s r x ∙ rw (p, l)
+  pub constant_number : (left : List PlacedSym) (b : List ℕ) (n : Lex) → g ≡ sign (head ss).symbol → g ≡ None → rest ≡ unsigned g ss → start (head rest).symbol ≡ a_number b → n ≡ (b, (head rest).place) → left ≡ tail rest → constant_of ss ≡ got (tree.signed None n) left
+  constant_number left b n e s r x p l = constant_at_lem ss rest g _ e s r x ∙ rw (p, l)
 
-  pub constant_name_lem : (left : List PlacedSym) (b : List ℕ) (k : ℕ) → g ≡ sign (head ss).symbol → g ≡ None → rest ≡ unsigned g ss → start (head rest).symbol ≡ a_name b → k ≡ (head rest).place → left ≡ tail rest → constant_of ss ≡ got (tree.constant_name (b, k)) left
-  constant_name_lem left b k e s r x p l = constant_at_lem ss rest g _ e s r x ∙ rw (p, l)
+  pub constant_name_lem : (left : List PlacedSym) (b : List ℕ) (n : Lex) → g ≡ sign (head ss).symbol → g ≡ None → rest ≡ unsigned g ss → start (head rest).symbol ≡ a_name b → n ≡ (b, (head rest).place) → left ≡ tail rest → constant_of ss ≡ got (tree.constant_name n) left
+  constant_name_lem left b n e s r x p l = constant_at_lem ss rest g _ e s r x ∙ rw (p, l)
 
-  pub constant_character_lem : (left : List PlacedSym) (b : List ℕ) (k : ℕ) → g ≡ sign (head ss).symbol → g ≡ None → rest ≡ unsigned g ss → start (head rest).symbol ≡ a_character b → k ≡ (head rest).place → left ≡ tail rest → constant_of ss ≡ got (tree.constant_character (b, k)) left
-  constant_character_lem left b k e s r x p l = constant_at_lem ss rest g _ e s r x ∙ rw (p, l)
+  pub constant_character_lem : (left : List PlacedSym) (b : List ℕ) (n : Lex) → g ≡ sign (head ss).symbol → g ≡ None → rest ≡ unsigned g ss → start (head rest).symbol ≡ a_character b → n ≡ (b, (head rest).place) → left ≡ tail rest → constant_of ss ≡ got (tree.constant_character n) left
+  constant_character_lem left b n e s r x p l = constant_at_lem ss rest g _ e s r x ∙ rw (p, l)
 
   -- what begins no constant
   pub constant_none : g ≡ sign (head ss).symbol → g ≡ None → rest ≡ unsigned g ss → constant_fault (start (head rest).symbol) ≡ true → constant_of ss ≡ fault Syntax rest
@@ -101,19 +101,6 @@ module _ (d : ℕ) where
     unfolding record_at
     record_is = nested_some type_expr_of d e ss rest _ h r ∙ rw p
 
--- a section, put in front of others
-pub section_is : (t : Reads Typ) (others : List (List Lex × Typ)) (ss : List PlacedSym) → mapped (λ x. x ∷ others) (section_of t ss) ≡ after (idents_of ss) (λ ns rest. after (expect_mark Colon rest) (λ _ left. mapped (λ x. (ns, x) ∷ others) (t left)))
-unfolding section_of after
-section_is t others ss = go (idents_of ss)
-  where
-    inside : (ns : List Lex) (o : Out Typ) → mapped (λ x. x ∷ others) (mapped (λ x. (ns, x)) o) ≡ mapped (λ x. (ns, x) ∷ others) o
-    inside ns (got x left) = refl
-    inside ns (fault c left) = refl
-
-    colon : (ns : List Lex) (o : Out (Unit {0})) → mapped (λ x. x ∷ others) (after o (λ _ left. mapped (λ x. (ns, x)) (t left))) ≡ after o (λ _ left. mapped (λ x. (ns, x) ∷ others) (t left))
-    colon ns (got x left) = inside ns (t left)
-    colon ns (fault c left) = refl
-
-    go : (o : Out (List Lex)) → mapped (λ x. x ∷ others) (after o (λ ns rest. after (expect_mark Colon rest) (λ _ left. mapped (λ x. (ns, x)) (t left)))) ≡ after o (λ ns rest. after (expect_mark Colon rest) (λ _ left. mapped (λ x. (ns, x) ∷ others) (t left)))
-    go (got ns rest) = colon ns (expect_mark Colon rest)
-    go (fault c rest) = refl
+pub section_is : (t : Reads Typ) (ss : List PlacedSym) → section_of t ss ≡ after (idents_of ss) (λ ns rest. after (expect_mark Colon rest) (λ _ left. mapped (λ x. (ns, x)) (t left)))
+unfolding section_of
+section_is t ss = refl

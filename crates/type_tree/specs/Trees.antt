@@ -5,9 +5,9 @@ use Rattle.cursor.specs.Promises.{lex_of}
 use Rattle.expression_tree.specs.declared.Sign.{Sign}
 use Rattle.type_tree.specs.declared.Constant.{Constant}
 use Rattle.type_tree.specs.declared.Constant.TheVariants as constant
-use Rattle.type_tree.specs.declared.TypeExpr.{TypeExpr}
-use Rattle.type_tree.specs.declared.Sections.{Sections}
-use Rattle.type_tree.specs.declared.Sections.TheVariants as coded
+use Rattle.type_tree.specs.declared.TypeExpr.{TypeExpr, Row_of-Section, end_of-Section, more_of-Section}
+use Rattle.type_tree.specs.declared.TypeExpr.TheVariants as coded
+use Rattle.type_tree.specs.declared.Section.{Section}
 
 pub data Con : Type 0 where
   signed : Option Sign → Lex → Con
@@ -42,8 +42,11 @@ abbrev mutual
   typ_of (coded.Named l) = named (lex_of l)
   typ_of (coded.Enumeration k v) = enumeration k (map lex_of (vec_items v))
   typ_of (coded.Array' k a b p t) = array_of k (con_of a) (con_of b) (typ_of t)
-  typ_of (coded.Record' k p s) = record_of k (secs (secs_of s))
+  typ_of (coded.Record' k v s) = record_of k (secs (secs_of s))
 
-  pub secs_of : Sections → List (List Lex × Typ)
-  secs_of coded.NoSection = []
-  secs_of (coded.Section' v p t q s) = (map lex_of (vec_items v), typ_of t) ∷ secs_of s
+  pub secs_of : {n : _} → Row_of-Section n → List (List Lex × Typ)
+  secs_of end_of-Section = []
+  secs_of (more_of-Section v t s) = (map lex_of (vec_items v), typ_of t) ∷ secs_of s
+
+abbrev pub sec_of : Section → List Lex × Typ
+sec_of s = (map lex_of (vec_items s.names), typ_of s.field)

@@ -7,7 +7,7 @@ ghost use Rattle.store.specs.Bays.{bay_cells, BayBeside};
 ghost use Rattle.weighings.specs.Lines.{line_at};
 
 use std::fmt;
-use store::{Bay, Store, clear};
+use store::{Bay, Store, clear, copy};
 use strip::Strip;
 
 // Writes the numbers into the first cells, as far as both go, and answers how many.
@@ -16,27 +16,23 @@ pub fn write_all<S: Store>(store: &mut S, numbers: &[i32]) -> usize
     ensures after { S.cells store.new ≡ copied numbers.now (S.cells store.old) }
     ensures rest { S.beside store.old store.new }
 {
-    let most = numbers.len().min(store.count());
-    for i in 0..most {
-        let _ = store.put(i, numbers[i]);
-    }
-    most
+    copy(&numbers, store)
 }
 
-// Lays a bay over a store and writes the day into it: the weighings one after another, then 0 in the cells that are left.
-// Nothing else of the store is changed.
-pub fn lay_day<S: Store>(below: S, first: usize, len: usize, weighings: &[i32]) -> Bay<S>
-    ensures cells { bay_cells S.Store.cells result ≡ copied weighings.now (cleared len (bay_cells S.Store.cells (record { below = below; first = first; len = len }))) }
-    ensures rest { BayBeside S.Store.cells S.Store.beside (record { below = below; first = first; len = len }) result }
+// Writes the day into a bay: the weighings one after another, then 0 in the cells that are left.
+// Nothing else of the store below is changed.
+pub fn lay_day<S: Store>(mut bay: Bay<S>, weighings: &[i32]) -> Bay<S>
+    ensures cells { bay_cells S.cells result ≡ copied weighings.now (cleared bay.len (bay_cells S.cells bay)) }
+    ensures rest { BayBeside S.cells S.beside bay result }
 {
-    let mut bay = Bay { below, first, len };
+    let len = bay.len;
     clear(&mut bay, len);
     write_all(&mut bay, weighings);
     bay
 }
 
 // A cell with its own four bytes and the number that they are.
-#[derive(Drop)]
+#[derive(Clone, Copy, Debug, PartialEq, Eq)]
 pub struct Line {
     pub cell: usize,
     pub bytes: [u8; 4],
@@ -47,16 +43,7 @@ pub struct Line {
 pub fn line_at(strip: &Strip, n: usize) -> Option<Line>
     ensures { result ≡ line_at strip.now.bytes.now n }
 {
-    if n >= strip.count() {
-        return None;
-    }
-    let at = 4 * n;
-    let bytes = [
-        strip.bytes[at],
-        strip.bytes[at + 1],
-        strip.bytes[at + 2],
-        strip.bytes[at + 3],
-    ];
+    let bytes = strip.cell_bytes(n)?;
     Some(Line {
         cell: n,
         bytes,

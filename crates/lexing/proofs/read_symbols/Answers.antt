@@ -3,11 +3,12 @@ use Rattle.std.proofs.ResultArms.{chosen}
 use Rattle.symbol.specs.Symbols.{sym_of, placed_of}
 use Rattle.scanner.specs.Scan.{scan}
 use Rattle.scanner.specs.States.{place_in}
-use Rattle.lexing.specs.Reading.{sym_is_ending}
+use Rattle.lexing.specs.Reading.{Reading, sym_is_ending, symbols_of}
 use Rattle.lexing.proofs.Turns.{not_ending, map_push, by_fault, by_end, goes_on, by_symbol}
 use Rattle.lexing.proofs.Only.{laws}
 use Rattle.lexing.proofs.Whole.{rest, onto, rest_whole}
 use Rattle.lexing.proofs.read_symbols.Goals as goal
+use Rattle.lexing.proofs.read_symbols.Goals.{in-Err, in-Ok+in-End}
 
 pub loop-fault-init : goal.loop-fault-init
 loop-fault-init c =
@@ -17,22 +18,20 @@ loop-fault-init c =
     let nothing : map placed_of (vec_items c.new-list.result) ≡ [] = ap (map placed_of) c.new-list.ensures.items in
     (starts.1.0, omega arith, starts.0, ap (λ ss. onto ss (rest text (place_in c.in_ok-scanner.scanner))) nothing ∙ ap (λ k. onto [] (rest text k)) at ∙ rest_whole text)
 
-pub returns-in-Err : goal.returns-in-Err
-returns-in-Err c =
+pub returns : goal.returns
+returns c =
     let text = c.args.text.now in
     let at = place_in c.loop-fault.scanner in
     let inv = c.loop-fault.invariant in
-    let e = c.in-Err.ensures.answer ∙ ap (λ xs. scan xs at) inv.0 in
-    let is = by_fault text at (map placed_of (vec_items c.loop-fault.list)) inv.3 c.in-Err.fault e in
-    record { value = (inv.2, is); law = laws text _ is }
-
-pub returns-in-End : goal.returns-in-End
-returns-in-End c =
-    let text = c.args.text.now in
-    let at = place_in c.loop-fault.scanner in
-    let inv = c.loop-fault.invariant in
-    let e = c.in-Ok.ensures.answer ∙ ap (λ xs. scan xs at) inv.0 in
-    let is = by_end text at (map placed_of (vec_items c.loop-fault.list)) inv.3 (placed_of c.in-Ok.next) _ e (ap (λ s. sym_is_ending (sym_of s)) c.in-End.is) in
+    let ss = map placed_of (vec_items c.loop-fault.list) in
+    let is : ◌≡◌ {A = Reading} (record { list = ss; stop = c.match-next.stop }) (symbols_of text) = elim c.match-next.branch [
+      | in-Err w ↦
+          let e = w.in-Err.ensures.answer ∙ ap (λ xs. scan xs at) inv.0 in
+          ap (λ s. record { list = ss; stop = s }) w.stop-is ∙ by_fault text at ss inv.3 w.in-Err.fault e
+      | in-Ok+in-End w ↦
+          let e = w.in-Ok.ensures.answer ∙ ap (λ xs. scan xs at) inv.0 in
+          ap (λ s. record { list = ss; stop = s }) w.stop-is ∙ by_end text at ss inv.3 (placed_of w.in-Ok.next) _ e (ap (λ s. sym_is_ending (sym_of s)) w.in-End.is)
+    ] in
     record { value = (inv.2, is); law = laws text _ is }
 
 pub loop-fault-smaller : goal.loop-fault-smaller

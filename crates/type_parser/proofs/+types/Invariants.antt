@@ -1,8 +1,7 @@
-use Rattle.std.proofs.Common.{◌≡◌, ◌+◌, ◌*◌, length}
+use Rattle.std.proofs.Common.{◌≡◌, ◌+◌, ◌*◌, ◌++◌, map, length}
 use Rattle.symbol.specs.declared.mark.Mark.TheVariants.{Semicolon}
-use Rattle.cursor.specs.Promises.{unread}
-use Rattle.cursor.specs.Reading.{mapped, turned, further_of}
-use Rattle.type_tree.specs.Trees.{secs_of}
+use Rattle.cursor.specs.Reading.{mapped, further_of}
+use Rattle.type_tree.specs.Trees.{sec_of}
 use Rattle.type_parser.specs.Readers.{section_of, type_expr_of}
 use Rattle.type_parser.proofs.+types.Given as goal
 
@@ -24,8 +23,8 @@ decreases-record l = l.allowance * 4
 
 abbrev pub invariant-record-loop-cursor : goal.invariant-record-loop-cursor
 invariant-record-loop-cursor l =
-    mapped (turned (secs_of l.sections)) (further_of Semicolon (section_of (type_expr_of l.deeper)) (unread l.cursor))
-    ≡ mapped (turned (secs_of l.initial.sections)) (further_of Semicolon (section_of (type_expr_of l.deeper)) (unread l.initial.cursor))
+    mapped (λ xs. map sec_of l.sections.items ++ xs) (further_of Semicolon (section_of (type_expr_of l.deeper)) l.cursor)
+    ≡ mapped (λ xs. map sec_of l.initial.sections.items ++ xs) (further_of Semicolon (section_of (type_expr_of l.deeper)) l.initial.cursor)
 
 abbrev pub decreases-record-loop-cursor : goal.decreases-record-loop-cursor
-decreases-record-loop-cursor l = length (unread l.cursor)
+decreases-record-loop-cursor l = length l.cursor

@@ -9,8 +9,8 @@ returns-in_err-deeper c = too_deep _ _ _ _ c.from_residual.ensures.1 c.in_err-de
 pub returns-in_err-names : goal.returns-in_err-names
 returns-in_err-names c = broke _ c.from_residual-in_err-names.ensures.1 c.in_err-names.ensures (enumeration_is _ _ _ _ _ (ap (λ s. s.place) c.first-place.ensures) c.in_ok-deeper.ensures.0 c.in_ok-deeper.ensures.1)
 
-pub returns-in_err-mark : goal.returns-in_err-mark
-returns-in_err-mark c = broke _ c.from_residual-in_err-mark.ensures.1 c.in_err-mark.ensures (onward _ (enumeration_is _ _ _ _ _ (ap (λ s. s.place) c.first-place.ensures) c.in_ok-deeper.ensures.0 c.in_ok-deeper.ensures.1) (followed c.in_ok-names.ensures))
+pub returns-in_err-pass : goal.returns-in_err-pass
+returns-in_err-pass c = broke _ c.from_residual-in_err-pass.ensures.1 c.in_err-pass.ensures (onward _ (enumeration_is _ _ _ _ _ (ap (λ s. s.place) c.first-place.ensures) c.in_ok-deeper.ensures.0 c.in_ok-deeper.ensures.1) (followed c.in_ok-names.ensures))
 
 pub returns : goal.returns
-returns c = follow (onward _ (onward _ (enumeration_is _ _ _ _ _ (ap (λ s. s.place) c.first-place.ensures) c.in_ok-deeper.ensures.0 c.in_ok-deeper.ensures.1) (followed c.in_ok-names.ensures)) (followed c.in_ok-mark.ensures))
+returns c = follow (onward _ (onward _ (enumeration_is _ _ _ _ _ (ap (λ s. s.place) c.first-place.ensures) c.in_ok-deeper.ensures.0 c.in_ok-deeper.ensures.1) (followed c.in_ok-names.ensures)) (followed c.in_ok-pass.ensures))

@@ -1,25 +1,16 @@
-use Rattle.std.proofs.Common.{None, sym, refl, ap, ◌∙◌}
-use Rattle.symbol.specs.Words.{words, same_name}
+use Rattle.std.proofs.Common.{◌≡◌, sym, ◌∙◌, rules, tests}
+use Rattle.std.proofs.lemmas.Iterator.{YieldsList-from_slice}
+use Rattle.std.proofs.lemmas.Iterator.Adapters.{option_map_id}
+use Rattle.std.proofs.lemmas.Iterator.Consumers.{YieldsList-from_copied}
+use Rattle.std.proofs.lemmas.Iterator.Search.{find_from_yields_List}
+use Rattle.symbol.specs.Words.{same_name, word_spelling, words, reserved}
 use Rattle.symbol.proofs.Reserved.{reserves}
-use Rattle.symbol.proofs.Same.{word_passed, word_found, word_missing}
 use Rattle.symbol.proofs.word.Word.of.Goals as goal
-
-pub loop-word-init : goal.loop-word-init
-loop-word-init c = refl
-
-pub returns-then-same_name : goal.returns-then-same_name
-returns-then-same_name c =
-    let n = c.args.name.now in
-    let e = sym (word_found n words c.loop-word.word-index _ c.loop-word-test.true (ap (same_name n) (sym c.spelling.ensures) ∙ sym c.if-same_name.ensures)) ∙ c.loop-word.invariant in
-    record { value = e; law = reserves n _ e }
-
-pub loop-word-preserved : goal.loop-word-preserved
-loop-word-preserved c =
-    let n = c.args.name.now in
-    word_passed n words c.loop-word.word-index _ c.loop-word-test.true (ap (same_name n) (sym c.spelling.ensures) ∙ sym c.if-same_name.ensures) ∙ c.loop-word.invariant
 
 pub returns : goal.returns
 returns c =
     let n = c.args.name.now in
-    let e = sym (word_missing n words c.loop-word.word-index c.loop-word-test.false) ∙ c.loop-word.invariant in
-    record { value = e; law = reserves n None e }
+    let is : c.find.result ≡ reserved n =
+    sym (option_map_id c.find.result)
+    ∙ find_from_yields_List (λ w. same_name n (word_spelling w)) _ _ _ c.find.ensures.ran (YieldsList-from_copied (YieldsList-from_slice words (cc))) (λ x b q k. search (rules, tests)) in
+    record { value = is; law = reserves n _ is }

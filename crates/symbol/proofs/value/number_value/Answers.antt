@@ -1,6 +1,0 @@
-use Rattle.std.proofs.Common.{arith, ltb-true}
-use Rattle.symbol.proofs.Digits.{empty_number}
-use Rattle.symbol.proofs.value.number_value.Goals as goal
-
-pub returns-in_default : goal.returns-in_default
-returns-in_default c = empty_number c.args.part.now (omega (arith, ltb-true))
