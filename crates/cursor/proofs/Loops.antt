@@ -23,11 +23,6 @@ after_same (fault c rest) k j e = refl
 pub mapped_same : {A B : Type 0} (o : Out A) (f g : A → B) → ((a : A) → f a ≡ g a) → mapped f o ≡ mapped g o
 mapped_same o f g e = after_same o _ _ (λ a rest. ap (λ b. got b rest) (e a))
 
-pub mapped_mapped : {A B C : Type 0} (o : Out A) (f : A → B) (g : B → C) → mapped g (mapped f o) ≡ mapped (λ a. g (f a)) o
-unfolding after
-mapped_mapped (got a rest) f g = refl
-mapped_mapped (fault c rest) f g = refl
-
 pub mapped_id : {A : Type 0} (o : Out A) → mapped (λ a. a) o ≡ o
 unfolding after
 mapped_id (got a rest) = refl
@@ -257,9 +252,6 @@ module _ {B : Type 0} (m : Mark) (r : Reads B) (w : Reading r) where
 
   pub further_turn : {C : Type 0} (g : List B → C) (ss rest : List PlacedSym) → sym_is_mark m (head ss).symbol ≡ true → rest ≡ tail ss → mapped g (further_of m r ss) ≡ after (r rest) (λ b left. mapped (λ bs. g (b ∷ bs)) (further_of m r left))
   further_turn g ss rest e h = behind_turn (separator m) (λ _ b. b) r refl w g tt ss rest (rw e) h
-
-  pub further_stop : {C : Type 0} (g : List B → C) (ss : List PlacedSym) → sym_is_mark m (head ss).symbol ≡ false → mapped g (further_of m r ss) ≡ got (g []) ss
-  further_stop g ss e = behind_stop (separator m) (λ _ b. b) r refl w g ss (rw e)
 
   pub further_less : (ss rest left : List PlacedSym) (b : B) → sym_is_mark m (head ss).symbol ≡ true → rest ≡ tail ss → r rest ≡ got b left → length left < length ss
   further_less ss rest left b e h g = behind_less (separator m) (λ _ b. b) r refl w tt ss rest left b (rw e) h g

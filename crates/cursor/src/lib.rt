@@ -3,10 +3,9 @@
 
 ghost use Rattle.std.specs.Prelude.{◌≡◌, ◌∷◌, map, Bool};
 ghost use Rattle.symbol.specs.Symbols.{Sym, sym_of, placed_of};
-ghost use Rattle.std.specs.Option.{option_map};
 ghost use Rattle.cursor.specs.declared.Halt.TheVariants.{NoMemory};
 ghost use Rattle.cursor.specs.Kinds.{sym_is_mark, sym_is_word, sym_is_name};
-ghost use Rattle.cursor.specs.Reading.{head, tail, expect, expect_end, name_in, number_in, lexeme_at, ident_of, number_of, idents_of, mapped, further_of};
+ghost use Rattle.cursor.specs.Reading.{head, tail, expect, expect_end, ident_of, number_of, idents_of, mapped, further_of};
 ghost use Rattle.symbol.specs.declared.mark.Mark.TheVariants.{Comma};
 ghost use Rattle.cursor.specs.Promises.{lex_of, halt_at, Follows, Opens};
 
@@ -15,7 +14,8 @@ use std::alloc::{AllocError, AllocFailed, Global};
 use std::marker::Model;
 use symbol::{Mark, Placed, Symbol, Word};
 
-// A name, a number or a character as it is written, and its place.
+// A name, a number or a character as it is written, and its place. Not one generic type with `Placed`: the fields' names say what
+// stands at the place.
 #[derive(Clone, Copy, Debug, PartialEq, Eq)]
 pub struct Lexeme<'t> {
     pub text: &'t [u8],
@@ -32,7 +32,7 @@ pub enum Halt {
     NoMemory,
 }
 
-// Both kinds of want of memory: `?` meets the second on a Vec or a Box, the first on what makes a tree.
+// Both kinds of want of memory: `?` meets the second on a Vec's push, the first on what makes a node with a box.
 impl From<AllocError> for Halt {
     ghost from_gives = { λ _ r. r ≡ NoMemory };
 
@@ -73,34 +73,15 @@ impl Terminal for Word {
     }
 }
 
+// A name is written in many ways, so it is no `Terminal`.
 pub fn is_name(symbol: Symbol) -> bool
     ensures { result ≡ sym_is_name (sym_of symbol.entry) }
 {
     matches!(symbol, Symbol::Name(_))
 }
 
-// One match for each kind of symbol that has a text: a variant cannot be a parameter.
-
-fn name_in<'t>(symbol: Symbol<'t>) -> Option<&'t [u8]>
-    ensures { option_map (λ b. b.now) result ≡ name_in (sym_of symbol.entry) }
-{
-    match symbol {
-        Symbol::Name(text) => Some(text),
-        _ => None,
-    }
-}
-
-fn number_in<'t>(symbol: Symbol<'t>) -> Option<&'t [u8]>
-    ensures { option_map (λ b. b.now) result ≡ number_in (sym_of symbol.entry) }
-{
-    match symbol {
-        Symbol::Number(text) => Some(text),
-        _ => None,
-    }
-}
-
 // A way along the symbols of a text.
-#[derive(Drop)]
+#[derive(Debug, Drop)]
 pub struct Cursor<'s, 't> {
     rest: &'s [Placed<'t>],
     pub heap: Global,
@@ -201,37 +182,34 @@ impl<'s, 't> Cursor<'s, 't> {
         Lexeme { text, place }
     }
 
-    // Reads the first symbol where it has a text, and refuses it otherwise.
-    fn lexeme(&mut self, text: Option<&'t [u8]>) -> Result<Lexeme<'t>, Halt>
-        ensures { Follows lex_of result self.new (lexeme_at (option_map (λ b. b.now) text.entry) self.old) }
-    {
-        match text {
-            Some(text) => Ok(self.take(text)),
-            None => Err(self.halt(Cause::Syntax)),
-        }
-    }
-
     pub fn ident(&mut self) -> Result<Lexeme<'t>, Halt>
         ensures { Follows lex_of result self.new (ident_of self.old) }
     {
-        self.lexeme(name_in(self.first().symbol))
+        match self.first().symbol {
+            Symbol::Name(text) => Ok(self.take(text)),
+            _ => Err(self.halt(Cause::Syntax)),
+        }
     }
 
+    // A match as for a name, since a case cannot be a parameter.
     pub fn number(&mut self) -> Result<Lexeme<'t>, Halt>
         ensures { Follows lex_of result self.new (number_of self.old) }
     {
-        self.lexeme(number_in(self.first().symbol))
+        match self.first().symbol {
+            Symbol::Number(text) => Ok(self.take(text)),
+            _ => Err(self.halt(Cause::Syntax)),
+        }
     }
 
     // Reads the symbol that opens one level more.
     pub fn deeper(&mut self, allowance: u8) -> Result<u8, Halt>
         ensures { Opens allowance result self.old self.new }
     {
-        if allowance == 0 {
+        let Some(deeper) = allowance.checked_sub(1) else {
             return Err(self.halt(Cause::TooDeep));
-        }
+        };
         self.advance();
-        Ok(allowance - 1)
+        Ok(deeper)
     }
 
     // Names, parted by commas.
@@ -242,7 +220,7 @@ impl<'s, 't> Cursor<'s, 't> {
         self.idents_after(first)
     }
 
-    // The same, behind the first name. Not for any item: what an item reads would be a `requires`, and a public function has none.
+    // The same, behind the first name. Not for any item: the other lists stand in cycles of calls, which cannot go through such a reader.
     pub fn idents_after(&mut self, first: Lexeme<'t>) -> Result<Vec<Lexeme<'t>>, Halt>
         ensures { Follows (λ v. map lex_of v.items) result self.new (mapped (λ bs. lex_of first.entry ∷ bs) (further_of Comma ident_of self.old)) }
     {

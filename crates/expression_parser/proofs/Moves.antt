@@ -1,13 +1,15 @@
 -- What the readers of expressions answer, step by step, in the forms that the code has. Assumes nothing.
-use Rattle.std.proofs.Common.{◌≡◌, ℕ, zero, suc, ◌<◌, true, false, List, [], ◌∷◌, ◌++◌, map, length, Some, None, Option, sym, refl, ap, ◌∙◌}
+use Rattle.std.proofs.Common.{◌≡◌, ℕ, zero, suc, ◌<◌, true, false, List, [], ◌∷◌, ◌++◌, map, length, Some, None, Option, Ok, sym, refl, ap, ◌∙◌}
 use Rattle.fault.specs.declared.Cause.TheVariants.{Syntax, TooDeep}
-use Rattle.symbol.specs.Symbols.{Sym, PlacedSym}
+use Rattle.symbol.specs.Symbols.{Sym, PlacedSym, sym_of, placed_of}
+use Rattle.symbol.specs.declared.Placed.{Placed}
 use Rattle.symbol.specs.declared.mark.Mark.{Mark}
 use Rattle.symbol.specs.declared.mark.Mark.TheVariants.{LeftParen, RightParen, RightBracket, LeftBracket, Dot, Comma}
 use Rattle.cursor.specs.Kinds.{sym_is_mark}
 use Rattle.cursor.specs.Reading.{Out, Reads, got, fault, after, mapped, head, tail, Lex, ident_of, inner, paired, list_of, expect_mark}
 use Rattle.cursor.proofs.Loops.{Reading, Turns, all_inner, after_after, mapped_turn, whole, push_again, turn_less, behind_turn, behind_less, behind_pushed}
-use Rattle.cursor.proofs.Steps.{onward, nested_none, nested_some}
+use Rattle.cursor.specs.Promises.{Opens}
+use Rattle.cursor.proofs.Steps.{at_first, onward, nested_none, nested_some}
 use Rattle.expression_tree.specs.declared.Relation.{Relation}
 use Rattle.expression_tree.specs.declared.Sign.{Sign}
 use Rattle.expression_tree.specs.declared.Adding.{Adding}
@@ -33,13 +35,13 @@ expression_plain f ss mid a e g = onward _ (expression_is f ss) e ∙ ap (λ x. 
 pub expression_related : (f : Reads Fac) (ss mid rest : List PlacedSym) (a : Simp) (r : Relation) → simple_of f ss ≡ got a mid → relation (head mid).symbol ≡ Some r → rest ≡ tail mid → expression_of f ss ≡ mapped (tree.related a r) (simple_of f rest)
 expression_related f ss mid rest a r e g h = onward _ (expression_is f ss) e ∙ ap (λ x. related_of f x a mid) g ∙ ap (λ l. mapped (tree.related a r) (simple_of f l)) (sym h)
 
-pub simple_is : (f : Reads Fac) (ss rest : List PlacedSym) (g : Option Sign) (k : ℕ) → g ≡ sign (head ss).symbol → rest ≡ unsigned g ss → k ≡ (head ss).place → simple_of f ss ≡ after (term_of f rest) (λ t left. mapped (λ xs. tree.sum k g t (tree.adds xs)) (addends_of f left))
+pub simple_is : (f : Reads Fac) (ss rest : List PlacedSym) (g : Option Sign) (p : Placed) → (g ≡ sign (head ss).symbol) × (rest ≡ unsigned g ss) → placed_of p ≡ head ss → simple_of f ss ≡ after (term_of f rest) (λ t left. mapped (λ xs. tree.sum p.place g t (tree.adds xs)) (addends_of f left))
 unfolding simple_of
-simple_is f ss rest g k e h p = rw (← e, h, p)
+simple_is f ss rest g p e h = rw (← e.0, e.1, ap (λ x. x.place) h)
 
 -- up to the repetition
-pub simple_begins : (f : Reads Fac) (ss mid rest : List PlacedSym) (g : Option Sign) (k : ℕ) (t : Ter) → g ≡ sign (head ss).symbol → mid ≡ unsigned g ss → k ≡ (head ss).place → term_of f mid ≡ got t rest → simple_of f ss ≡ mapped (λ xs. tree.sum k g t (tree.adds xs)) (addends_of f rest)
-simple_begins f ss mid rest g k t e h p m = onward _ (simple_is f ss mid g k e h p) m
+pub simple_begins : (f : Reads Fac) (ss mid rest : List PlacedSym) (g : Option Sign) (p : Placed) (t : Ter) → (g ≡ sign (head ss).symbol) × (mid ≡ unsigned g ss) → placed_of p ≡ head ss → term_of f mid ≡ got t rest → simple_of f ss ≡ mapped (λ xs. tree.sum p.place g t (tree.adds xs)) (addends_of f rest)
+simple_begins f ss mid rest g p t e h m = onward _ (simple_is f ss mid g p e h) m
 
 pub term_is : (f : Reads Fac) (ss : List PlacedSym) → term_of f ss ≡ after (f ss) (λ x rest. mapped (λ ms. tree.product x (tree.muls ms)) (multipliers_of f rest))
 unfolding term_of
@@ -98,11 +100,11 @@ module _ (d : ℕ) where
   pub factor_name : (ss rest : List PlacedSym) (b : List ℕ) (n : Lex) → start (head ss).symbol ≡ a_name b → n ≡ (b, (head ss).place) → rest ≡ tail ss → factor d ss ≡ named_of (inner factor d) n rest
   factor_name ss rest b n e f g = factor_at_lem ss _ e ∙ rw (f, g)
 
-  pub factor_paren : (e : ℕ) (ss rest : List PlacedSym) (k : ℕ) → start (head ss).symbol ≡ an_opening → k ≡ (head ss).place → d ≡ suc e → rest ≡ tail ss → factor d ss ≡ after (expression_of (factor e) rest) (λ x left. mapped (λ _. tree.paren k x) (expect_mark RightParen left))
-  factor_paren e ss rest k s p h r = factor_at_lem ss _ s ∙ nested_some factor d e ss rest _ h r ∙ rw p
+  pub factor_paren : (e : ℕ) (ss rest : List PlacedSym) (p : Placed) → placed_of p ≡ head ss → start (sym_of p.symbol) ≡ an_opening → Opens d (Ok e) ss rest → factor d ss ≡ after (expression_of (factor e) rest) (λ x left. mapped (λ _. tree.paren p.place x) (expect_mark RightParen left))
+  factor_paren e ss rest p h s o = factor_at_lem ss _ (at_first start p ss h s) ∙ nested_some factor d e ss rest _ o.0 o.1 ∙ rw (ap (λ x. x.place) h)
 
-  pub factor_not : (e : ℕ) (ss rest : List PlacedSym) (k : ℕ) → start (head ss).symbol ≡ a_not → k ≡ (head ss).place → d ≡ suc e → rest ≡ tail ss → factor d ss ≡ mapped (tree.negated k) (factor e rest)
-  factor_not e ss rest k s p h r = factor_at_lem ss _ s ∙ nested_some factor d e ss rest _ h r ∙ rw p
+  pub factor_not : (e : ℕ) (ss rest : List PlacedSym) (p : Placed) → placed_of p ≡ head ss → start (sym_of p.symbol) ≡ a_not → Opens d (Ok e) ss rest → factor d ss ≡ mapped (tree.negated p.place) (factor e rest)
+  factor_not e ss rest p h s o = factor_at_lem ss _ (at_first start p ss h s) ∙ nested_some factor d e ss rest _ o.0 o.1 ∙ rw (ap (λ x. x.place) h)
 
   pub paren_deep : (ss : List PlacedSym) → start (head ss).symbol ≡ an_opening → d ≡ 0 → factor d ss ≡ fault TooDeep ss
   paren_deep ss s h = factor_at_lem ss _ s ∙ nested_none factor d ss _ h
@@ -174,9 +176,9 @@ module _ (d : ℕ) where
   unfolding enclosed_of
   enclosed_deep close ss h = nested_none factor d ss _ h
 
-  pub enclosed_is : (e : ℕ) (close : Mark) (ss rest : List PlacedSym) → d ≡ suc e → rest ≡ tail ss → enclosed_of (inner factor d) close ss ≡ after (list_of Comma (expression_of (factor e)) rest) (λ es left. mapped (λ _. es) (expect_mark close left))
+  pub enclosed_is : (e : ℕ) (close : Mark) (ss rest : List PlacedSym) → Opens d (Ok e) ss rest → enclosed_of (inner factor d) close ss ≡ after (list_of Comma (expression_of (factor e)) rest) (λ es left. mapped (λ _. es) (expect_mark close left))
   unfolding enclosed_of
-  enclosed_is e close ss rest h r = nested_some factor d e ss rest _ h r
+  enclosed_is e close ss rest o = nested_some factor d e ss rest _ o.0 o.1
 
 pub factor_other : (d : ℕ) (ss : List PlacedSym) → start (head ss).symbol ≡ other → factor d ss ≡ fault Syntax ss
 factor_other d ss e = factor_at_lem d ss _ e

@@ -1,8 +1,8 @@
 // The readers of expressions: one for each rule of the grammar, and one symbol looked ahead. Expression, simple, term and factor call each
 // other in a cycle, in which the nesting allowance falls.
 //
-// The allowance is a parameter beside the cursor and no field of it: it falls within a construct only, so every reader would have
-// to give a field back as it was, at each `?` too, and to promise that.
+// The allowance is a parameter beside the cursor. As a field of it, every reader would have to give it back as it was, at each `?`
+// too, and to promise that; a struct of both would lend the cursor anew at each level, and clauses would speak of what it points to.
 #![tactic(auto)]
 
 ghost use Rattle.std.specs.Prelude.{◌≡◌, map};
@@ -21,7 +21,7 @@ use expression_tree::{
 use fault::Cause;
 use symbol::{Mark, Symbol, Word};
 
-// The four below answer an `Option` and are no `TryFrom`: that a symbol is none of these is no error, but ends what is read.
+// The four below answer an `Option` and are no `TryFrom`: that a symbol is none of these is no error, since it may be left out.
 
 fn relation_of(symbol: Symbol) -> Option<Relation>
     ensures { result ≡ relation (sym_of symbol.entry) }
@@ -117,8 +117,8 @@ fn simple<'s, 't>(cursor: &mut Cursor<'s, 't>, allowance: u8) -> Result<Simple<'
     })
 }
 
-// This loop and that of `multipliers` differ in operator, operand and node: one function for both would take two closures with
-// clauses of their own, and be longer than the two.
+// This loop and that of `multipliers` differ in operator, operand and node: through one function for both the calls would lead back
+// here by its operand, and a cycle through such a function gets no proof (tried).
 #[cycle(expressions)]
 fn addends<'s, 't>(cursor: &mut Cursor<'s, 't>, allowance: u8) -> Result<Vec<Addend<'t>>, Halt>
     ensures { Follows (λ v. map addend_of v.items) result cursor.new (addends_of (factor_at allowance) cursor.old) }
@@ -226,7 +226,8 @@ pub fn selectors<'s, 't>(
     }
 }
 
-// The symbol that opens, expressions parted by commas, and the mark that closes.
+// The symbol that opens, expressions parted by commas, and the mark that closes. The list is read in place: through a reader of any list
+// the calls would lead back here by its item, a trait's, and a cycle through such a reader gets no proof (tried).
 #[cycle(expressions)]
 pub fn enclosed<'s, 't>(
     cursor: &mut Cursor<'s, 't>,

@@ -39,7 +39,7 @@ pub enum Multiplying {
     And,
 }
 
-#[derive(Drop)]
+#[derive(Debug, PartialEq, Eq, Drop)]
 #[cycle(expression)]
 pub enum Expression<'t> {
     Plain(Box<Simple<'t>>),
@@ -47,7 +47,7 @@ pub enum Expression<'t> {
 }
 
 // The place of the first symbol, a sign, the first term and those added to it.
-#[derive(Drop)]
+#[derive(Debug, PartialEq, Eq, Drop)]
 #[cycle(expression)]
 pub struct Simple<'t> {
     pub place: usize,
@@ -56,21 +56,21 @@ pub struct Simple<'t> {
     pub addends: Vec<Addend<'t>>,
 }
 
-#[derive(Drop)]
+#[derive(Debug, PartialEq, Eq, Drop)]
 #[cycle(expression)]
 pub struct Addend<'t> {
     pub adding: Adding,
     pub term: Term<'t>,
 }
 
-#[derive(Drop)]
+#[derive(Debug, PartialEq, Eq, Drop)]
 #[cycle(expression)]
 pub struct Term<'t> {
     pub first: Factor<'t>,
     pub multipliers: Vec<Multiplier<'t>>,
 }
 
-#[derive(Drop)]
+#[derive(Debug, PartialEq, Eq, Drop)]
 #[cycle(expression)]
 pub struct Multiplier<'t> {
     pub multiplying: Multiplying,
@@ -78,7 +78,7 @@ pub struct Multiplier<'t> {
 }
 
 // Parentheses and not have their place.
-#[derive(Drop)]
+#[derive(Debug, PartialEq, Eq, Drop)]
 #[cycle(expression)]
 pub enum Factor<'t> {
     Number(Lexeme<'t>),
@@ -90,7 +90,7 @@ pub enum Factor<'t> {
 }
 
 // What is chosen of a variable: a field, or what the indices of one bracket tell.
-#[derive(Drop)]
+#[derive(Debug, PartialEq, Eq, Drop)]
 #[cycle(expression)]
 pub enum Selector<'t> {
     Field(Lexeme<'t>),

@@ -27,6 +27,14 @@ impl Layer {
     }
 }
 
+impl fmt::Display for Layer {
+    ghost output = { λ l. Some (layer_name l) };
+
+    fn fmt<W: fmt::Write>(&self, f: &mut fmt::Formatter<W>) -> fmt::Result {
+        f.write_str(self.name())
+    }
+}
+
 // What is wrong with a text.
 #[derive(Clone, Copy, Debug, PartialEq, Eq)]
 pub enum Cause {
@@ -51,6 +59,7 @@ pub enum Cause {
     TooMany = 11,
 }
 
+// `number` stands at each enum and in no trait: a number is read off the enum itself, so a trait could not share the line.
 impl Cause {
     pub fn number(self) -> u8
         ensures { result ≡ cause_number self }
@@ -107,7 +116,7 @@ impl fmt::Display for Fault {
 
     fn fmt<W: fmt::Write>(&self, f: &mut fmt::Formatter<W>) -> fmt::Result {
         let number = self.number();
-        let layer = self.layer().name();
+        let layer = self.layer();
         let place = self.place;
         write!(f, "fault {number} {layer} {place}")
     }

@@ -12,7 +12,7 @@ use std::alloc::Global;
 use symbol::{Placed, Symbol};
 
 // The symbols of a text in order, up to the place where reading stopped.
-#[derive(Drop)]
+#[derive(Debug, PartialEq, Eq, Drop)]
 pub struct Symbols<'t> {
     pub list: Vec<Placed<'t>>,
     // the text's end, or what is no symbol

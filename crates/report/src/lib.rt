@@ -12,8 +12,9 @@ fn count_symbols(heap: Global, text: &[u8]) -> Result<usize, LoadError>
     ensures { Counts text.now result }
 {
     let symbols = read_symbols(heap, text)?;
-    let _end = symbols.stop?;
-    Ok(symbols.list.len())
+    let count = symbols.list.len();
+    symbols.stop?;
+    Ok(count)
 }
 
 // One line: how many symbols the text has, or its first fault.

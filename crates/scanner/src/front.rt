@@ -1,7 +1,6 @@
 // The symbol that bytes begin with.
-ghost use Rattle.std.specs.Prelude.{◌≡◌, ◌<◌, ◌≤◌, length, Some};
+ghost use Rattle.std.specs.Prelude.{◌≡◌, ◌<◌, ◌≤◌, length};
 ghost use Rattle.std.specs.Option.{option_map};
-ghost use Rattle.symbol.specs.Symbols.{mark as mark_sym};
 ghost use Rattle.scanner.specs.Fronts.{begun_of, run, begins_word, begins_digit, begins_quote, begins_mark, begins};
 
 use crate::gap::char_at;
@@ -74,42 +73,36 @@ fn quote_front<'t>(text: &'t [u8]) -> Option<Front<'t>>
     })
 }
 
-// This mark, of so many bytes.
-fn marked(mark: Mark, len: usize) -> Option<Front<'static>>
-    ensures { option_map begun_of result ≡ Some (mark_sym mark, len) }
-{
-    Some(Front {
-        symbol: Symbol::Mark(mark),
-        len,
-    })
-}
-
 // An operator, bracket or separator.
 fn mark_front(first: char, second: char) -> Option<Front<'static>>
     ensures { option_map begun_of result ≡ begins_mark first second }
 {
-    match (first, second) {
-        ('+', _) => marked(Mark::Plus, 1),
-        ('-', _) => marked(Mark::Minus, 1),
-        ('*', _) => marked(Mark::Times, 1),
-        ('/', _) => marked(Mark::Slash, 1),
-        ('=', _) => marked(Mark::Equal, 1),
-        ('<', '>') => marked(Mark::NotEqual, 2),
-        ('<', '=') => marked(Mark::LessEqual, 2),
-        ('<', _) => marked(Mark::Less, 1),
-        ('>', '=') => marked(Mark::GreaterEqual, 2),
-        ('>', _) => marked(Mark::Greater, 1),
-        (':', '=') => marked(Mark::Becomes, 2),
-        (':', _) => marked(Mark::Colon, 1),
-        ('(', _) => marked(Mark::LeftParen, 1),
-        (')', _) => marked(Mark::RightParen, 1),
-        ('[', _) => marked(Mark::LeftBracket, 1),
-        (']', _) => marked(Mark::RightBracket, 1),
-        ('.', _) => marked(Mark::Dot, 1),
-        (',', _) => marked(Mark::Comma, 1),
-        (';', _) => marked(Mark::Semicolon, 1),
-        _ => None,
-    }
+    let (mark, len) = match (first, second) {
+        ('+', _) => (Mark::Plus, 1),
+        ('-', _) => (Mark::Minus, 1),
+        ('*', _) => (Mark::Times, 1),
+        ('/', _) => (Mark::Slash, 1),
+        ('=', _) => (Mark::Equal, 1),
+        ('<', '>') => (Mark::NotEqual, 2),
+        ('<', '=') => (Mark::LessEqual, 2),
+        ('<', _) => (Mark::Less, 1),
+        ('>', '=') => (Mark::GreaterEqual, 2),
+        ('>', _) => (Mark::Greater, 1),
+        (':', '=') => (Mark::Becomes, 2),
+        (':', _) => (Mark::Colon, 1),
+        ('(', _) => (Mark::LeftParen, 1),
+        (')', _) => (Mark::RightParen, 1),
+        ('[', _) => (Mark::LeftBracket, 1),
+        (']', _) => (Mark::RightBracket, 1),
+        ('.', _) => (Mark::Dot, 1),
+        (',', _) => (Mark::Comma, 1),
+        (';', _) => (Mark::Semicolon, 1),
+        _ => return None,
+    };
+    Some(Front {
+        symbol: Symbol::Mark(mark),
+        len,
+    })
 }
 
 // One character decides which kind of symbol begins.

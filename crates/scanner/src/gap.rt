@@ -7,8 +7,8 @@ use fault::{Cause, Fault};
 // Comments nest so deep.
 const DEEPEST: usize = 32;
 
-// What to do at a place between symbols. No closures: which move it is stands in a table, apart from the loop that makes the moves,
-// and so it stands in the definition.
+// What to do at a place between symbols. No closures: the table tells which move it is, and the loop makes it; each is read, and
+// proved, without the other.
 #[derive(Clone, Copy, Debug, PartialEq, Eq)]
 pub enum Move {
     // a comment opens

@@ -11,7 +11,7 @@ use symbol::{Placed, Symbol};
 // A text has at most so many bytes.
 const LONGEST_TEXT: usize = 16384;
 
-#[derive(Clone, Copy, Debug)]
+#[derive(Clone, Copy, Debug, PartialEq, Eq)]
 pub struct Scanner<'t> {
     text: &'t [u8],
     at: usize,
@@ -28,7 +28,8 @@ impl<'t> Scanner<'t> {
         Ok(Scanner { text, at: 0 })
     }
 
-    // The next symbol, which at the text's end is `End`. A fault leaves the scanner where it was.
+    // The next symbol, which at the text's end is `End`, as often as it is asked for: so this is no iterator. A fault leaves the
+    // scanner where it was.
     pub fn next(&mut self) -> Result<Placed<'t>, Fault>
         ensures answer { answered result (place_in self.new) ≡ scan (text_of self.old) (place_in self.old) }
         ensures after { place_in self.new ≡ next_place (scan (text_of self.old) (place_in self.old)) (place_in self.old) }

@@ -49,13 +49,13 @@ impl<'a> Cells for &'a [i32] {
     }
 
     fn get(&self, n: usize) -> Result<i32, StoreError> {
-        let numbers = *self;
-        numbers.get(n).copied().ok_or(StoreError::NoCell)
+        // the slice's own `get`
+        (*self).get(n).copied().ok_or(StoreError::NoCell)
     }
 }
 
 // So many cells of 0.
-#[derive(Drop)]
+#[derive(Debug, Drop)]
 struct Zeros(usize);
 
 impl Cells for Zeros {
@@ -66,11 +66,7 @@ impl Cells for Zeros {
     }
 
     fn get(&self, n: usize) -> Result<i32, StoreError> {
-        if n < self.0 {
-            Ok(0)
-        } else {
-            Err(StoreError::NoCell)
-        }
+        (n < self.0).then_some(0).ok_or(StoreError::NoCell)
     }
 }
 
@@ -135,7 +131,8 @@ pub struct Bay<S> {
 }
 
 impl<S: Store> Bay<S> {
-    // Sets the first cell and the length anew: the bay is then another store, over the same one below.
+    // Sets the first cell and the length anew: the bay is then another store, over the same one below. Two numbers and no struct
+    // of them: no other function takes both.
     pub fn relocate(&mut self, first: usize, len: usize)
         ensures place { (self.new.first ≡ first) × (self.new.len ≡ len) }
         ensures below { self.new.below ≡ self.old.below }

@@ -19,7 +19,7 @@ pub enum Symbol<'t> {
     Character(&'t [u8]),
     Word(Word),
     Mark(Mark),
-    // behind the last symbol of the text
+    // behind the last symbol of the text; a case and no option, since a reader looks at a symbol in every state
     End,
 }
 

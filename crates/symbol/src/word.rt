@@ -125,7 +125,7 @@ impl Word {
         }
     }
 
-    // The reserved word that is written so, in capital or small letters.
+    // The reserved word that is written so, in capital or small letters. An option and no `TryFrom`: another name is no error.
     pub fn of(name: &[u8]) -> Option<Word>
         ensures value { result ≡ reserved name.now }
         ensures law { Reserves name.now result }

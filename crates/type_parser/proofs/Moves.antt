@@ -1,10 +1,12 @@
 -- What the readers of constants and types answer, step by step, in the forms that the code has. Assumes nothing.
-use Rattle.std.proofs.Common.{◌≡◌, ℕ, zero, suc, Bool, true, false, List, Some, None, Option, sym, refl, ap, ◌∙◌, subst}
+use Rattle.std.proofs.Common.{◌≡◌, ℕ, zero, suc, Bool, true, false, List, Some, None, Option, Ok, sym, refl, ap, ◌∙◌, subst}
 use Rattle.fault.specs.declared.Cause.TheVariants.{Syntax, TooDeep}
-use Rattle.symbol.specs.Symbols.{PlacedSym}
+use Rattle.symbol.specs.Symbols.{PlacedSym, placed_of}
+use Rattle.symbol.specs.declared.Placed.{Placed}
 use Rattle.symbol.specs.declared.mark.Mark.TheVariants.{RightParen, Colon, Semicolon}
 use Rattle.symbol.specs.declared.word.Word.TheVariants.{Of, End}
 use Rattle.cursor.specs.Reading.{Reads, got, fault, after, mapped, head, tail, expect_mark, expect_word, Lex, number_of, idents_of, inner, list_of}
+use Rattle.cursor.specs.Promises.{Opens}
 use Rattle.cursor.proofs.Steps.{nested_none, nested_some}
 use Rattle.expression_tree.specs.declared.Sign.{Sign}
 use Rattle.expression_parser.specs.Classes.{sign, Start, a_number, a_character, a_name, an_opening, a_not, other, start}
@@ -88,18 +90,18 @@ module _ (d : ℕ) where
   unfolding record_at
   record_deep ss h = nested_none type_expr_of d ss _ h
 
-  module _ (e : ℕ) (ss rest : List PlacedSym) (k : ℕ) (p : k ≡ (head ss).place) (h : d ≡ suc e) (r : rest ≡ tail ss) where
-    pub enumeration_is : enumeration_of (inner type_expr_of d) ss ≡ after (idents_of rest) (λ ns left. mapped (λ _. tree.enumeration k ns) (expect_mark RightParen left))
+  module _ (e : ℕ) (ss rest : List PlacedSym) (p : Placed) (h : placed_of p ≡ head ss) (o : Opens d (Ok e) ss rest) where
+    pub enumeration_is : enumeration_of (inner type_expr_of d) ss ≡ after (idents_of rest) (λ ns left. mapped (λ _. tree.enumeration p.place ns) (expect_mark RightParen left))
     unfolding enumeration_of
-    enumeration_is = nested_some type_expr_of d e ss rest _ h r ∙ rw p
+    enumeration_is = nested_some type_expr_of d e ss rest _ o.0 o.1 ∙ rw (ap (λ x. x.place) h)
 
-    pub array_is : array_at (inner type_expr_of d) ss ≡ after (constant_of rest) (λ a r1. after (expect_mark Colon r1) (λ _ r2. after (constant_of r2) (λ b r3. after (expect_word Of r3) (λ _ r4. mapped (tree.array_of k a b) (type_expr_of e r4)))))
+    pub array_is : array_at (inner type_expr_of d) ss ≡ after (constant_of rest) (λ a r1. after (expect_mark Colon r1) (λ _ r2. after (constant_of r2) (λ b r3. after (expect_word Of r3) (λ _ r4. mapped (tree.array_of p.place a b) (type_expr_of e r4)))))
     unfolding array_at
-    array_is = nested_some type_expr_of d e ss rest _ h r ∙ rw p
+    array_is = nested_some type_expr_of d e ss rest _ o.0 o.1 ∙ rw (ap (λ x. x.place) h)
 
-    pub record_is : record_at (inner type_expr_of d) ss ≡ after (list_of Semicolon (section_of (type_expr_of e)) rest) (λ xs left. mapped (λ _. tree.record_of k (tree.secs xs)) (expect_word End left))
+    pub record_is : record_at (inner type_expr_of d) ss ≡ after (list_of Semicolon (section_of (type_expr_of e)) rest) (λ xs left. mapped (λ _. tree.record_of p.place (tree.secs xs)) (expect_word End left))
     unfolding record_at
-    record_is = nested_some type_expr_of d e ss rest _ h r ∙ rw p
+    record_is = nested_some type_expr_of d e ss rest _ o.0 o.1 ∙ rw (ap (λ x. x.place) h)
 
 pub section_is : (t : Reads Typ) (ss : List PlacedSym) → section_of t ss ≡ after (idents_of ss) (λ ns rest. after (expect_mark Colon rest) (λ _ left. mapped (λ x. (ns, x)) (t left)))
 unfolding section_of

@@ -74,6 +74,7 @@ fn section<'s, 't>(cursor: &mut Cursor<'s, 't>, allowance: u8) -> Result<Section
     Ok(Section { names, field })
 }
 
+// The list of sections is read in place, for the reason that `expression_parser::enclosed` has.
 #[cycle(types)]
 fn record<'s, 't>(cursor: &mut Cursor<'s, 't>, allowance: u8) -> Result<TypeExpr<'t>, Halt>
     ensures { Follows typ_of result cursor.new (record_at (inner type_expr_of allowance) cursor.old) }

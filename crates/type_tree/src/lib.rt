@@ -14,7 +14,7 @@ pub enum Constant<'t> {
 }
 
 // A writing of a type has its place; a name is known by its own. A record has one section at least.
-#[derive(Drop)]
+#[derive(Debug, PartialEq, Eq, Drop)]
 #[cycle(type_expr)]
 pub enum TypeExpr<'t> {
     Named(Lexeme<'t>),
@@ -24,7 +24,7 @@ pub enum TypeExpr<'t> {
 }
 
 // Fields of one type.
-#[derive(Drop)]
+#[derive(Debug, PartialEq, Eq, Drop)]
 #[cycle(type_expr)]
 pub struct Section<'t> {
     pub names: Vec<Lexeme<'t>>,

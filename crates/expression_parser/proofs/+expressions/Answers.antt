@@ -35,18 +35,18 @@ expression-returns-in_ok-of_related-in-Some t c =
 
 pub simple-returns-in_err-first : goal.simple-returns-in_err-first
 simple-returns-in_err-first t c =
-    broke _ c.from_residual.ensures.1 c.in_err-first.ensures (simple_is _ _ _ _ _ c.read_sign-sign.ensures.0 c.read_sign-sign.ensures.1 (ap (λ s. s.place) c.first-place.ensures))
+    broke _ c.from_residual.ensures.1 c.in_err-first.ensures (simple_is _ _ _ _ _ c.read_sign-sign.ensures c.first-place.ensures)
 
 pub simple-returns-in_err-addends : goal.simple-returns-in_err-addends
 simple-returns-in_err-addends t c =
     broke _ c.from_residual-in_err-addends.ensures.1 c.in_err-addends.ensures
-    (simple_begins _ _ _ _ _ _ _ c.read_sign-sign.ensures.0 c.read_sign-sign.ensures.1 (ap (λ s. s.place) c.first-place.ensures) (followed c.in_ok-first.ensures))
+    (simple_begins _ _ _ _ _ _ _ c.read_sign-sign.ensures c.first-place.ensures (followed c.in_ok-first.ensures))
 
 pub simple-returns : goal.simple-returns
 simple-returns t c =
     made
     (onward _
-    (simple_begins _ _ _ _ _ _ _ c.read_sign-sign.ensures.0 c.read_sign-sign.ensures.1 (ap (λ s. s.place) c.first-place.ensures) (followed c.in_ok-first.ensures))
+    (simple_begins _ _ _ _ _ _ _ c.read_sign-sign.ensures c.first-place.ensures (followed c.in_ok-first.ensures))
     (followed c.in_ok-addends.ensures))
     (simple_says _)
 
@@ -128,17 +128,17 @@ factor-returns-in_err-deeper-in-Mark-LeftParen t c =
 pub factor-returns-in_err-inner-in-Mark-LeftParen : goal.factor-returns-in_err-inner-in-Mark-LeftParen
 factor-returns-in_err-inner-in-Mark-LeftParen t c =
     let k : start (sym_of c.first-first.result.symbol) ≡ an_opening = search rules in
-    broke _ c.from_residual-in_err-inner-in-Mark-LeftParen.ensures.1 c.in_err-inner-in-Mark-LeftParen.ensures (factor_paren _ _ _ _ _ (at_first start _ _ c.first-first.ensures k) (ap (λ s. s.place) c.first-first.ensures) c.in_ok-deeper-in-Mark-LeftParen.ensures.0 c.in_ok-deeper-in-Mark-LeftParen.ensures.1)
+    broke _ c.from_residual-in_err-inner-in-Mark-LeftParen.ensures.1 c.in_err-inner-in-Mark-LeftParen.ensures (factor_paren _ _ _ _ _ c.first-first.ensures k c.in_ok-deeper-in-Mark-LeftParen.ensures)
 
 pub factor-returns-in_err-pass-in-Mark-LeftParen : goal.factor-returns-in_err-pass-in-Mark-LeftParen
 factor-returns-in_err-pass-in-Mark-LeftParen t c =
     let k : start (sym_of c.first-first.result.symbol) ≡ an_opening = search rules in
-    broke _ c.from_residual-in_err-pass-in-Mark-LeftParen.ensures.1 c.in_err-pass-in-Mark-LeftParen.ensures (onward _ (factor_paren _ _ _ _ _ (at_first start _ _ c.first-first.ensures k) (ap (λ s. s.place) c.first-first.ensures) c.in_ok-deeper-in-Mark-LeftParen.ensures.0 c.in_ok-deeper-in-Mark-LeftParen.ensures.1) (followed c.in_ok-inner-in-Mark-LeftParen.ensures))
+    broke _ c.from_residual-in_err-pass-in-Mark-LeftParen.ensures.1 c.in_err-pass-in-Mark-LeftParen.ensures (onward _ (factor_paren _ _ _ _ _ c.first-first.ensures k c.in_ok-deeper-in-Mark-LeftParen.ensures) (followed c.in_ok-inner-in-Mark-LeftParen.ensures))
 
 pub factor-returns-in_ok-of_paren-in-Mark-LeftParen : goal.factor-returns-in_ok-of_paren-in-Mark-LeftParen
 factor-returns-in_ok-of_paren-in-Mark-LeftParen t c =
     let k : start (sym_of c.first-first.result.symbol) ≡ an_opening = search rules in
-    made (onward _ (onward _ (factor_paren _ _ _ _ _ (at_first start _ _ c.first-first.ensures k) (ap (λ s. s.place) c.first-first.ensures) c.in_ok-deeper-in-Mark-LeftParen.ensures.0 c.in_ok-deeper-in-Mark-LeftParen.ensures.1) (followed c.in_ok-inner-in-Mark-LeftParen.ensures)) (followed c.in_ok-pass-in-Mark-LeftParen.ensures)) c.in_ok-of_paren-in-Mark-LeftParen.ensures
+    made (onward _ (onward _ (factor_paren _ _ _ _ _ c.first-first.ensures k c.in_ok-deeper-in-Mark-LeftParen.ensures) (followed c.in_ok-inner-in-Mark-LeftParen.ensures)) (followed c.in_ok-pass-in-Mark-LeftParen.ensures)) c.in_ok-of_paren-in-Mark-LeftParen.ensures
 
 pub factor-returns-in_err-deeper-in-Word-Not : goal.factor-returns-in_err-deeper-in-Word-Not
 factor-returns-in_err-deeper-in-Word-Not t c =
@@ -148,12 +148,12 @@ factor-returns-in_err-deeper-in-Word-Not t c =
 pub factor-returns-in_err-inner-in-Word-Not : goal.factor-returns-in_err-inner-in-Word-Not
 factor-returns-in_err-inner-in-Word-Not t c =
     let k : start (sym_of c.first-first.result.symbol) ≡ a_not = search rules in
-    broke _ c.from_residual-in_err-inner-in-Word-Not.ensures.1 c.in_err-inner-in-Word-Not.ensures (factor_not _ _ _ _ _ (at_first start _ _ c.first-first.ensures k) (ap (λ s. s.place) c.first-first.ensures) c.in_ok-deeper-in-Word-Not.ensures.0 c.in_ok-deeper-in-Word-Not.ensures.1)
+    broke _ c.from_residual-in_err-inner-in-Word-Not.ensures.1 c.in_err-inner-in-Word-Not.ensures (factor_not _ _ _ _ _ c.first-first.ensures k c.in_ok-deeper-in-Word-Not.ensures)
 
 pub factor-returns-in_ok-of_not-in-Word-Not : goal.factor-returns-in_ok-of_not-in-Word-Not
 factor-returns-in_ok-of_not-in-Word-Not t c =
     let k : start (sym_of c.first-first.result.symbol) ≡ a_not = search rules in
-    made (onward _ (factor_not _ _ _ _ _ (at_first start _ _ c.first-first.ensures k) (ap (λ s. s.place) c.first-first.ensures) c.in_ok-deeper-in-Word-Not.ensures.0 c.in_ok-deeper-in-Word-Not.ensures.1) (followed c.in_ok-inner-in-Word-Not.ensures)) c.in_ok-of_not-in-Word-Not.ensures
+    made (onward _ (factor_not _ _ _ _ _ c.first-first.ensures k c.in_ok-deeper-in-Word-Not.ensures) (followed c.in_ok-inner-in-Word-Not.ensures)) c.in_ok-of_not-in-Word-Not.ensures
 
 pub factor-returns-in_default : goal.factor-returns-in_default
 factor-returns-in_default t c =
@@ -219,12 +219,12 @@ enclosed-returns-in_err-deeper t c =
 pub enclosed-returns-in_err-first : goal.enclosed-returns-in_err-first
 enclosed-returns-in_err-first t c =
     broke _ c.from_residual-in_err-first.ensures.1 c.in_err-first.ensures
-    (enclosed_is _ _ _ _ _ c.in_ok-deeper.ensures.0 c.in_ok-deeper.ensures.1 ∙ within_list _ _ _ _ _ _ _ (list_is Comma _ _))
+    (enclosed_is _ _ _ _ _ c.in_ok-deeper.ensures ∙ within_list _ _ _ _ _ _ _ (list_is Comma _ _))
 
 pub enclosed-returns-in_err-next : goal.enclosed-returns-in_err-next
 enclosed-returns-in_err-next t c =
     broke _ c.from_residual-in_err-next.ensures.1 c.in_err-next.ensures
-    (enclosed_is _ _ _ _ _ c.in_ok-deeper.ensures.0 c.in_ok-deeper.ensures.1
+    (enclosed_is _ _ _ _ _ c.in_ok-deeper.ensures
     ∙ within_list _ _ _ _ _ _ _
     (list_pushed Comma _ expr_of _ _ _ _ _ (followed c.in_ok-first.ensures) c.new-list.ensures.items c.in_ok-push.ensures.items
     ∙ sym c.loop-cursor.invariant
@@ -242,7 +242,7 @@ enclosed-loop-cursor-preserved t c =
 pub enclosed-returns-in_err-pass : goal.enclosed-returns-in_err-pass
 enclosed-returns-in_err-pass t c =
     broke _ c.from_residual-in_err-pass.ensures.1 c.in_err-pass.ensures
-    (onward _ (enclosed_is _ _ _ _ _ c.in_ok-deeper.ensures.0 c.in_ok-deeper.ensures.1)
+    (onward _ (enclosed_is _ _ _ _ _ c.in_ok-deeper.ensures)
     (list_pushed Comma _ expr_of _ _ _ _ _ (followed c.in_ok-first.ensures) c.new-list.ensures.items c.in_ok-push.ensures.items
     ∙ further_all Comma _ (expression_within _ (factor_within _)) _ _ (sym c.loop-cursor-test.ensures) c.loop-cursor.invariant))
 
@@ -250,7 +250,7 @@ pub enclosed-returns : goal.enclosed-returns
 enclosed-returns t c =
     follow
     (onward _
-    (onward _ (enclosed_is _ _ _ _ _ c.in_ok-deeper.ensures.0 c.in_ok-deeper.ensures.1)
+    (onward _ (enclosed_is _ _ _ _ _ c.in_ok-deeper.ensures)
     (list_pushed Comma _ expr_of _ _ _ _ _ (followed c.in_ok-first.ensures) c.new-list.ensures.items c.in_ok-push.ensures.items
     ∙ further_all Comma _ (expression_within _ (factor_within _)) _ _ (sym c.loop-cursor-test.ensures) c.loop-cursor.invariant))
     (followed c.in_ok-pass.ensures))

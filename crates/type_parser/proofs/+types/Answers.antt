@@ -46,31 +46,31 @@ array-returns-in_err-deeper t c =
 pub array-returns-in_err-low : goal.array-returns-in_err-low
 array-returns-in_err-low t c =
     broke _ c.from_residual-in_err-low.ensures.1 c.in_err-low.ensures
-    (array_is _ _ _ _ _ (ap (λ s. s.place) c.first-place.ensures) c.in_ok-deeper.ensures.0 c.in_ok-deeper.ensures.1)
+    (array_is _ _ _ _ _ c.first-place.ensures c.in_ok-deeper.ensures)
 
 pub array-returns-in_err-pass : goal.array-returns-in_err-pass
 array-returns-in_err-pass t c =
     broke _ c.from_residual-in_err-pass.ensures.1 c.in_err-pass.ensures
-    (onward _ (array_is _ _ _ _ _ (ap (λ s. s.place) c.first-place.ensures) c.in_ok-deeper.ensures.0 c.in_ok-deeper.ensures.1) (followed c.in_ok-low.ensures))
+    (onward _ (array_is _ _ _ _ _ c.first-place.ensures c.in_ok-deeper.ensures) (followed c.in_ok-low.ensures))
 
 pub array-returns-in_err-high : goal.array-returns-in_err-high
 array-returns-in_err-high t c =
     broke _ c.from_residual-in_err-high.ensures.1 c.in_err-high.ensures
-    (onward _ (onward _ (array_is _ _ _ _ _ (ap (λ s. s.place) c.first-place.ensures) c.in_ok-deeper.ensures.0 c.in_ok-deeper.ensures.1) (followed c.in_ok-low.ensures)) (followed c.in_ok-pass.ensures))
+    (onward _ (onward _ (array_is _ _ _ _ _ c.first-place.ensures c.in_ok-deeper.ensures) (followed c.in_ok-low.ensures)) (followed c.in_ok-pass.ensures))
 
 pub array-returns-in_err-pass-2 : goal.array-returns-in_err-pass-2
 array-returns-in_err-pass-2 t c =
     broke _ c.from_residual-in_err-pass-2.ensures.1 c.in_err-pass-2.ensures
-    (onward _ (onward _ (onward _ (array_is _ _ _ _ _ (ap (λ s. s.place) c.first-place.ensures) c.in_ok-deeper.ensures.0 c.in_ok-deeper.ensures.1) (followed c.in_ok-low.ensures)) (followed c.in_ok-pass.ensures)) (followed c.in_ok-high.ensures))
+    (onward _ (onward _ (onward _ (array_is _ _ _ _ _ c.first-place.ensures c.in_ok-deeper.ensures) (followed c.in_ok-low.ensures)) (followed c.in_ok-pass.ensures)) (followed c.in_ok-high.ensures))
 
 pub array-returns-in_err-element : goal.array-returns-in_err-element
 array-returns-in_err-element t c =
     broke _ c.from_residual-in_err-element.ensures.1 c.in_err-element.ensures
-    (onward _ (onward _ (onward _ (onward _ (array_is _ _ _ _ _ (ap (λ s. s.place) c.first-place.ensures) c.in_ok-deeper.ensures.0 c.in_ok-deeper.ensures.1) (followed c.in_ok-low.ensures)) (followed c.in_ok-pass.ensures)) (followed c.in_ok-high.ensures)) (followed c.in_ok-pass-2.ensures))
+    (onward _ (onward _ (onward _ (onward _ (array_is _ _ _ _ _ c.first-place.ensures c.in_ok-deeper.ensures) (followed c.in_ok-low.ensures)) (followed c.in_ok-pass.ensures)) (followed c.in_ok-high.ensures)) (followed c.in_ok-pass-2.ensures))
 
 pub array-returns : goal.array-returns
 array-returns t c =
-    made (onward _ (onward _ (onward _ (onward _ (onward _ (array_is _ _ _ _ _ (ap (λ s. s.place) c.first-place.ensures) c.in_ok-deeper.ensures.0 c.in_ok-deeper.ensures.1) (followed c.in_ok-low.ensures)) (followed c.in_ok-pass.ensures)) (followed c.in_ok-high.ensures)) (followed c.in_ok-pass-2.ensures)) (followed c.in_ok-element.ensures)) c.in_ok-of_array.ensures
+    made (onward _ (onward _ (onward _ (onward _ (onward _ (array_is _ _ _ _ _ c.first-place.ensures c.in_ok-deeper.ensures) (followed c.in_ok-low.ensures)) (followed c.in_ok-pass.ensures)) (followed c.in_ok-high.ensures)) (followed c.in_ok-pass-2.ensures)) (followed c.in_ok-element.ensures)) c.in_ok-of_array.ensures
 
 -- ---- section
 
@@ -99,12 +99,12 @@ record-returns-in_err-deeper t c =
 pub record-returns-in_err-first : goal.record-returns-in_err-first
 record-returns-in_err-first t c =
     broke _ c.from_residual-in_err-first.ensures.1 c.in_err-first.ensures
-    (record_is _ _ _ _ _ (ap (λ s. s.place) c.first-place.ensures) c.in_ok-deeper.ensures.0 c.in_ok-deeper.ensures.1 ∙ within_list _ _ _ _ _ _ _ (list_is Semicolon _ _))
+    (record_is _ _ _ _ _ c.first-place.ensures c.in_ok-deeper.ensures ∙ within_list _ _ _ _ _ _ _ (list_is Semicolon _ _))
 
 pub record-returns-in_err-next : goal.record-returns-in_err-next
 record-returns-in_err-next t c =
     broke _ c.from_residual-in_err-next.ensures.1 c.in_err-next.ensures
-    (record_is _ _ _ _ _ (ap (λ s. s.place) c.first-place.ensures) c.in_ok-deeper.ensures.0 c.in_ok-deeper.ensures.1
+    (record_is _ _ _ _ _ c.first-place.ensures c.in_ok-deeper.ensures
     ∙ within_list _ _ _ _ _ _ _
     (list_pushed Semicolon _ sec_of _ _ _ _ _ (followed c.in_ok-first.ensures) c.new-sections.ensures.items c.in_ok-push.ensures.items
     ∙ sym c.loop-cursor.invariant
@@ -122,7 +122,7 @@ record-loop-cursor-preserved t c =
 pub record-returns-in_err-pass : goal.record-returns-in_err-pass
 record-returns-in_err-pass t c =
     broke _ c.from_residual-in_err-pass.ensures.1 c.in_err-pass.ensures
-    (onward _ (record_is _ _ _ _ _ (ap (λ s. s.place) c.first-place.ensures) c.in_ok-deeper.ensures.0 c.in_ok-deeper.ensures.1)
+    (onward _ (record_is _ _ _ _ _ c.first-place.ensures c.in_ok-deeper.ensures)
     (list_pushed Semicolon _ sec_of _ _ _ _ _ (followed c.in_ok-first.ensures) c.new-sections.ensures.items c.in_ok-push.ensures.items
     ∙ further_all Semicolon _ (section_within _ (type_within _)) _ _ (sym c.loop-cursor-test.ensures) c.loop-cursor.invariant))
 
@@ -130,7 +130,7 @@ pub record-returns : goal.record-returns
 record-returns t c =
     made
     (onward _
-    (onward _ (record_is _ _ _ _ _ (ap (λ s. s.place) c.first-place.ensures) c.in_ok-deeper.ensures.0 c.in_ok-deeper.ensures.1)
+    (onward _ (record_is _ _ _ _ _ c.first-place.ensures c.in_ok-deeper.ensures)
     (list_pushed Semicolon _ sec_of _ _ _ _ _ (followed c.in_ok-first.ensures) c.new-sections.ensures.items c.in_ok-push.ensures.items
     ∙ further_all Semicolon _ (section_within _ (type_within _)) _ _ (sym c.loop-cursor-test.ensures) c.loop-cursor.invariant))
     (followed c.in_ok-pass.ensures))

@@ -2,7 +2,7 @@ use Rattle.std.proofs.Common.{sym, ◌∙◌, rules}
 use Rattle.symbol.specs.declared.mark.Mark.TheVariants.{Comma}
 use Rattle.cursor.specs.Reading.{ident_of}
 use Rattle.cursor.specs.Promises.{lex_of}
-use Rattle.cursor.proofs.Loops.{ident_within, further_turn, further_less, further_pushed, further_all, begins_pushed}
+use Rattle.cursor.proofs.Loops.{ident_within, further_turn, further_pushed, further_all, begins_pushed}
 use Rattle.cursor.proofs.Steps.{broke, follow, followed}
 use Rattle.cursor.proofs.Cursor.idents_after.Goals as goal
 
@@ -12,9 +12,6 @@ returns-in_err-ident c =
     (begins_pushed lex_of _ _ _ _ c.new-names.ensures.items c.in_ok-push.ensures.items
     ∙ sym c.loop-self.invariant
     ∙ further_turn Comma ident_of ident_within _ _ _ (sym c.loop-self-test.ensures) c.advance.ensures)
-
-pub loop-self-smaller : goal.loop-self-smaller
-loop-self-smaller c = further_less Comma ident_of ident_within _ _ _ _ (sym c.loop-self-test.ensures) c.advance.ensures (followed c.in_ok-ident.ensures)
 
 pub loop-self-preserved : goal.loop-self-preserved
 loop-self-preserved c =
