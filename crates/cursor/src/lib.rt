@@ -1,7 +1,7 @@
 // A way along the symbols of a text: what all readers of the grammar are made of.
 #![tactic(auto)]
 
-ghost use Rattle.std.specs.Prelude.{◌≡◌, ◌∷◌, map, Bool};
+ghost use Rattle.std.specs.Prelude.{◌≡◌, [], ◌∷◌, ◌++◌, map, Bool, is_ok, if◌then◌else◌};
 ghost use Rattle.symbol.specs.Symbols.{Sym, sym_of, placed_of};
 ghost use Rattle.cursor.specs.declared.Halt.TheVariants.{NoMemory};
 ghost use Rattle.cursor.specs.Kinds.{sym_is_mark, sym_is_word, sym_is_name};
@@ -47,6 +47,19 @@ impl<T: Drop> From<AllocFailed<T>> for Halt {
     fn from(_e: AllocFailed<T>) -> Halt {
         Halt::NoMemory
     }
+}
+
+// Puts an item at a list's end; without memory the list stays as it is. Most lists of a text are short, so the room grows from one
+// item on, doubling, where `push` alone would make room for four at first.
+pub fn append<T: Drop>(list: &mut Vec<T>, item: T) -> Result<(), AllocError>
+    ensures { list.new.items ≡ (if is_ok result then list.old.items ++ item ∷ [] else list.old.items) }
+{
+    let len = list.len();
+    if len == list.capacity() {
+        list.reserve_exact(len.max(1))?;
+    }
+    list.push(item)?;
+    Ok(())
 }
 
 // A symbol that is always written the same way: a mark or a reserved word.

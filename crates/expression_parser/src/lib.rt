@@ -13,7 +13,7 @@ ghost use Rattle.expression_tree.specs.Trees.{expr_of, simp_of, addend_of, ter_o
 ghost use Rattle.expression_parser.specs.Classes.{relation, sign, adding, multiplying};
 ghost use Rattle.expression_parser.specs.Readers.{unsigned, term_of, multipliers_of, addends_of, simple_of, expression_of, enclosed_of, selectors_of, named_of, factor as factor_at};
 
-use cursor::{Cursor, Halt, Lexeme};
+use cursor::{Cursor, Halt, Lexeme, append};
 use expression_tree::{
     Addend, Adding, Expression, Factor, Multiplier, Multiplying, Relation, Selector, Sign, Simple,
     Term,
@@ -127,7 +127,7 @@ fn addends<'s, 't>(cursor: &mut Cursor<'s, 't>, allowance: u8) -> Result<Vec<Add
     while let Some(adding) = adding_of(cursor.first().symbol) {
         cursor.advance();
         let term = term(cursor, allowance)?;
-        addends.push(Addend { adding, term })?;
+        append(&mut addends, Addend { adding, term })?;
     }
     Ok(addends)
 }
@@ -152,10 +152,13 @@ fn multipliers<'s, 't>(
     while let Some(multiplying) = multiplying_of(cursor.first().symbol) {
         cursor.advance();
         let factor = factor(cursor, allowance)?;
-        multipliers.push(Multiplier {
-            multiplying,
-            factor,
-        })?;
+        append(
+            &mut multipliers,
+            Multiplier {
+                multiplying,
+                factor,
+            },
+        )?;
     }
     Ok(multipliers)
 }

@@ -55,6 +55,7 @@ pub fn divide(x: i32, y: i32) -> Result<i32, Trap>
 }
 
 // Quotient and remainder together. The quotient is rounded down, so the remainder is never below 0.
+#[tactic(auto, using(crate::proofs::Division::floored_is))]
 pub fn quotient_remainder(x: i32, y: i32) -> Result<(i32, i32), Trap>
     ensures value { result ≡ floored x y }
     ensures law { Floors x y result }

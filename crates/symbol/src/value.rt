@@ -10,7 +10,7 @@ const LARGEST_CHARACTER: u32 = 0o177;
 fn digit_value(byte: u8, base: u32) -> Option<u32>
     ensures { result ≡ digit_value_of base byte }
 {
-    let digit = u32::from(byte.checked_sub(b'0')?);
+    let digit = u32::from(byte).checked_sub(u32::from(b'0'))?;
     (digit < base).then_some(digit)
 }
 
@@ -21,15 +21,16 @@ fn digits_value(digits: &[u8], base: u32, limit: u32) -> Option<u32>
     if digits.is_empty() {
         return None;
     }
-    let mut value: u32 = 0;
+    // 64 bits hold a digit more behind any number up to the limit, so that one test a digit is enough.
+    let mut value: u64 = 0;
     for byte in digits {
         let digit = digit_value(*byte, base)?;
-        value = value.checked_mul(base)?.checked_add(digit)?;
-        if value > limit {
+        value = value * u64::from(base) + u64::from(digit);
+        if value > u64::from(limit) {
             return None;
         }
     }
-    Some(value)
+    u32::try_from(value).ok()
 }
 
 // The value of a number: decimal digits, or octal digits and B.

@@ -7,7 +7,7 @@ ghost use Rattle.cursor.specs.Reading.{inner};
 ghost use Rattle.type_tree.specs.Trees.{con_of, typ_of, sec_of};
 ghost use Rattle.type_parser.specs.Readers.{constant_of, enumeration_of, type_expr_of, array_at, section_of, record_at};
 
-use cursor::{Cursor, Halt};
+use cursor::{Cursor, Halt, append};
 use expression_parser::read_sign;
 use fault::Cause;
 use symbol::{Mark, Symbol, Word};
@@ -83,11 +83,11 @@ fn record<'s, 't>(cursor: &mut Cursor<'s, 't>, allowance: u8) -> Result<TypeExpr
     let deeper = cursor.deeper(allowance)?;
     let first = section(cursor, deeper)?;
     let mut sections = Vec::new(cursor.heap);
-    sections.push(first)?;
+    append(&mut sections, first)?;
     while cursor.at(Mark::Semicolon) {
         cursor.advance();
         let next = section(cursor, deeper)?;
-        sections.push(next)?;
+        append(&mut sections, next)?;
     }
     cursor.pass(Word::End)?;
     Ok(TypeExpr::Record(place, sections))

@@ -64,7 +64,7 @@ addends-loop-adding-smaller t c =
 pub addends-loop-adding-preserved : goal.addends-loop-adding-preserved
 addends-loop-adding-preserved t c =
     addend_again c.args.allowance _ _ _ _ _ _ _ _ (at_first adding _ _ c.first.ensures (sym c.in-Some.ensures)) c.advance.ensures (followed c.in_ok-term.ensures)
-    (addend_says _) c.in_ok-push.ensures.items c.loop-adding.invariant
+    (addend_says _) c.in_ok-append.ensures c.loop-adding.invariant
 
 pub addends-returns : goal.addends-returns
 addends-returns t c =
@@ -99,7 +99,7 @@ multipliers-loop-multiplying-smaller t c =
 pub multipliers-loop-multiplying-preserved : goal.multipliers-loop-multiplying-preserved
 multipliers-loop-multiplying-preserved t c =
     multiplier_again c.args.allowance _ _ _ _ _ _ _ _ (at_first multiplying _ _ c.first.ensures (sym c.in-Some.ensures)) c.advance.ensures (followed c.in_ok-factor.ensures)
-    refl c.in_ok-push.ensures.items c.loop-multiplying.invariant
+    refl c.in_ok-append.ensures c.loop-multiplying.invariant
 
 pub multipliers-returns : goal.multipliers-returns
 multipliers-returns t c =

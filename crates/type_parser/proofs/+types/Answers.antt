@@ -106,7 +106,7 @@ record-returns-in_err-next t c =
     broke _ c.from_residual-in_err-next.ensures.1 c.in_err-next.ensures
     (record_is _ _ _ _ _ c.first-place.ensures c.in_ok-deeper.ensures
     ∙ within_list _ _ _ _ _ _ _
-    (list_pushed Semicolon _ sec_of _ _ _ _ _ (followed c.in_ok-first.ensures) c.new-sections.ensures.items c.in_ok-push.ensures.items
+    (list_pushed Semicolon _ sec_of _ _ _ _ _ (followed c.in_ok-first.ensures) c.new-sections.ensures.items c.in_ok-append.ensures
     ∙ sym c.loop-cursor.invariant
     ∙ further_turn Semicolon _ (section_within _ (type_within _)) _ _ _ (sym c.loop-cursor-test.ensures) c.advance.ensures))
 
@@ -117,13 +117,13 @@ record-loop-cursor-smaller t c =
 pub record-loop-cursor-preserved : goal.record-loop-cursor-preserved
 record-loop-cursor-preserved t c =
     further_pushed Semicolon _ (section_within _ (type_within _)) sec_of _ _ _ _ _ _ (sym c.loop-cursor-test.ensures) c.advance.ensures (followed c.in_ok-next.ensures)
-    c.in_ok-push-2.ensures.items c.loop-cursor.invariant
+    c.in_ok-append-2.ensures c.loop-cursor.invariant
 
 pub record-returns-in_err-pass : goal.record-returns-in_err-pass
 record-returns-in_err-pass t c =
     broke _ c.from_residual-in_err-pass.ensures.1 c.in_err-pass.ensures
     (onward _ (record_is _ _ _ _ _ c.first-place.ensures c.in_ok-deeper.ensures)
-    (list_pushed Semicolon _ sec_of _ _ _ _ _ (followed c.in_ok-first.ensures) c.new-sections.ensures.items c.in_ok-push.ensures.items
+    (list_pushed Semicolon _ sec_of _ _ _ _ _ (followed c.in_ok-first.ensures) c.new-sections.ensures.items c.in_ok-append.ensures
     ∙ further_all Semicolon _ (section_within _ (type_within _)) _ _ (sym c.loop-cursor-test.ensures) c.loop-cursor.invariant))
 
 pub record-returns : goal.record-returns
@@ -131,7 +131,7 @@ record-returns t c =
     made
     (onward _
     (onward _ (record_is _ _ _ _ _ c.first-place.ensures c.in_ok-deeper.ensures)
-    (list_pushed Semicolon _ sec_of _ _ _ _ _ (followed c.in_ok-first.ensures) c.new-sections.ensures.items c.in_ok-push.ensures.items
+    (list_pushed Semicolon _ sec_of _ _ _ _ _ (followed c.in_ok-first.ensures) c.new-sections.ensures.items c.in_ok-append.ensures
     ∙ further_all Semicolon _ (section_within _ (type_within _)) _ _ (sym c.loop-cursor-test.ensures) c.loop-cursor.invariant))
     (followed c.in_ok-pass.ensures))
     (record_says _ c.loop-cursor.sections)

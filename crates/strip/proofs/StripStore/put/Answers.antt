@@ -1,4 +1,4 @@
-use Rattle.std.proofs.Common.{◌≡◌, ◌+◌, ◌-◌, ◌*◌, refl, ap, ◌∙◌, arith}
+use Rattle.std.proofs.Common.{◌≡◌, ◌+◌, ◌-◌, ◌*◌, refl, ap, ◌∙◌, arith, rules}
 use Rattle.std.proofs.lemmas.Bool.Decides.{nat_tests}
 use Rattle.std.proofs.lemmas.Int.{to_z-of_z}
 use borrow.Rule.Slice.PartMut.{put_mid}
@@ -14,7 +14,7 @@ returns c =
     let fits = c.ranges.v in
     let l = strip_length bs in
     let four : 4 * n + 4 - 4 * n ≡ 4 = omega arith in
-    let ws : c.copy_from_slice.new.self ≡ bytes_of v = simp to_z-of_z at (c.copy_from_slice.ensures.after ∙ c.to_be_bytes.ensures) in
+    let ws : c.copy_from_slice.new.self ≡ bytes_of v = search (rules, to_z-of_z) in
     let w : put_mid (4 * n) (4 * n + 4 - 4 * n) bs c.copy_from_slice.new.self ≡ set4 bs (4 * n) (bytes_of v) = rw (four, ws) (set4_mid bs (4 * n) _ _ _ _ (omega (arith, within bs n (omega arith)))) in
     record {
       value = grind (arith, nat_tests);
